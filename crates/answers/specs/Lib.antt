@@ -1,0 +1,4 @@
+pub mod Reply
+pub mod Outcome
+pub mod Written
+pub mod Laws

@@ -1,0 +1,44 @@
+// The public calls. Each takes the mode as a number and any bytes, and refuses what document 01 says is refused; none has
+// a `requires`. What a call promises is its definition in specs/, a chain of guards in front of what was asked for.
+use answers::Reply;
+use prefixes::Parsed;
+ghost use mathlib.Core.Path.{_≡_};
+ghost use Rattle.answers.specs.Outcome.{told};
+ghost use Rattle.paths.specs.Prefix.{refusedPrefix, prefixCall};
+
+// The prefix of a path, and how many bytes it takes.
+pub struct Prefixed {
+    pub reply: Reply,
+    pub prefix: Parsed,
+    pub len: usize,
+}
+
+fn refuse_prefix(r: Reply) -> Prefixed
+    ensures { λ a. ⌜ a ≡ refusedPrefix r ⌝ }
+{
+    Prefixed {
+        reply: r,
+        prefix: Parsed::Nothing,
+        len: 0,
+    }
+}
+
+pub fn prefix(mode: usize, path: &[u8]) -> Prefixed
+    ensures { λ a. ⌜ a ≡ told refusedPrefix (prefixCall mode (now (path .entry))) ⌝ }
+{
+    if mode > 1 {
+        return refuse_prefix(Reply::Mode);
+    }
+    if path.len() > octets::LIMIT {
+        return refuse_prefix(Reply::Length);
+    }
+    let p = prefixes::prefix_in(octets::seps_of(mode), path);
+    match p {
+        Parsed::Nothing => refuse_prefix(Reply::Absent),
+        Parsed::Is(q) => Prefixed {
+            reply: Reply::Done,
+            prefix: Parsed::Is(q),
+            len: prefixes::prefix_len(q),
+        },
+    }
+}

@@ -1,0 +1,32 @@
+-- Worked examples of prefixes, and that a prefix lies in its path.
+use Prim.Native.Nat.{ℕ, _+_, _-_, _≤_, _<_}
+use native.Mathlib.Omega.{arith}
+use mathlib.Core.Path.{_≡_, refl, sym, _∙_}
+use mathlib.Core.List.{List, [], _∷_}
+use Rattle.octets.specs.Class.{classOf, isLetter}
+use Rattle.octets.specs.Segment.{lead}
+use Rattle.prefixes.specs.declared.Name.{Name}
+use Rattle.prefixes.specs.declared.Names.{Names}
+use Rattle.prefixes.specs.declared.Prefix.the-variants.{Verbatim, VerbatimUnc, VerbatimDisk, DeviceNs, Unc, Disk}
+use Rattle.prefixes.specs.declared.Parsed.the-variants.{Nothing, Is}
+use Rattle.prefixes.specs.Prefix.{turned, begins, slashed, capital, drive, driveExact, past, nameOf, namesOf, isVerbatim, verbatimOf, uncOf, deviceOf, prefixOf}
+
+abbrev at : ℕ → ℕ → Name
+at i n = record { start = i; len = n }
+
+abbrev pair : Name → Name → Names
+pair a b = record { server = a; share = b }
+
+-- E4 `c:\a`: Disk C; E6 `//?/C:/x`: UNC(`?`, `C:`); E7 `\\?\C:x\y`: Verbatim(`C:x`); E8 `\\server`: none;
+-- E9 `\\?\UNC\`: VerbatimUNC, both names empty; `\\?\UNC/s\h`: VerbatimUNC(s, h); `\\?\C:`: VerbatimDisk C; `\\.\COM1/x`: DeviceNS(COM1)
+pub examples :
+    (prefixOf (99 ∷ 58 ∷ 92 ∷ 97 ∷ []) ≡ Is (Disk 67))
+    × (prefixOf (47 ∷ 47 ∷ 63 ∷ 47 ∷ 67 ∷ 58 ∷ 47 ∷ 120 ∷ []) ≡ Is (Unc (pair (at 2 1) (at 4 2))))
+    × (prefixOf (92 ∷ 92 ∷ 63 ∷ 92 ∷ 67 ∷ 58 ∷ 120 ∷ 92 ∷ 121 ∷ []) ≡ Is (Verbatim (at 4 3)))
+    × (prefixOf (92 ∷ 92 ∷ 115 ∷ 101 ∷ 114 ∷ 118 ∷ 101 ∷ 114 ∷ []) ≡ Nothing)
+    × (prefixOf (92 ∷ 92 ∷ 63 ∷ 92 ∷ 85 ∷ 78 ∷ 67 ∷ 92 ∷ []) ≡ Is (VerbatimUnc (pair (at 8 0) (at 8 0))))
+    × (prefixOf (92 ∷ 92 ∷ 63 ∷ 92 ∷ 85 ∷ 78 ∷ 67 ∷ 47 ∷ 115 ∷ 92 ∷ 104 ∷ []) ≡ Is (VerbatimUnc (pair (at 8 1) (at 10 1))))
+    × (prefixOf (92 ∷ 92 ∷ 63 ∷ 92 ∷ 67 ∷ 58 ∷ []) ≡ Is (VerbatimDisk 67))
+    × (prefixOf (92 ∷ 92 ∷ 46 ∷ 92 ∷ 67 ∷ 79 ∷ 77 ∷ 49 ∷ 47 ∷ 120 ∷ []) ≡ Is (DeviceNs (at 4 4)))
+unfolding prefixOf isVerbatim verbatimOf uncOf deviceOf turned begins slashed capital drive driveExact past nameOf namesOf lead classOf isLetter
+examples = (refl, refl, refl, refl, refl, refl, refl, refl)

@@ -1,0 +1,492 @@
+-- Laws of the prefixes: one a way through each function.
+use Prim.Native.Nat.{ℕ, zero, suc, _+_, _-_, _*_, _^_, _<_, _≤_}
+use mir.Syntax.{w64}
+use mir.Val.{Fits}
+use native.Mathlib.Omega.{arith}
+use native.Mathlib.Numerals.{add-one}
+use mathlib.Core.Path.{_≡_, refl, sym, ap, _∙_}
+use mathlib.Core.List.{List, [], _∷_}
+use mathlib.Core.Bool.{Bool, true, false, not, cond, false≢true}
+use lib.ListN.{length, getD, take, drop, drop-of-length-le, length-drop}
+use lib.Seq.{drop-cons, take-all}
+use lib.Dec.{eqb, ltb, leb}
+use borrow.Author.Tests.{eq-eqb, ne-eqb, lt-ltb, le-ltb, ltb-true, ltb-false, eqb-true, eqb-false}
+use Rattle.octets.specs.Class.{isLetter, isSep}
+use Rattle.octets.specs.declared.Seps.{Seps}
+use Rattle.octets.specs.declared.Seps.the-variants.{Unix, Windows, Verbatim as OnlyBack}
+use Rattle.octets.specs.Segment.{lead, endOf, EndAt}
+use Rattle.octets.specs.Laws.{split, lead-short}
+use Rattle.prefixes.specs.declared.Name.{Name}
+use Rattle.prefixes.specs.declared.Names.{Names}
+use Rattle.prefixes.specs.declared.Figures.{Figures}
+use Rattle.prefixes.specs.declared.Prefix.{Prefix}
+use Rattle.prefixes.specs.declared.Prefix.the-variants.{Verbatim, VerbatimUnc, VerbatimDisk, DeviceNs, Unc, Disk}
+use Rattle.prefixes.specs.declared.Parsed.{Parsed}
+use Rattle.prefixes.specs.declared.Parsed.the-variants.{Nothing, Is}
+use Rattle.prefixes.specs.Prefix.{turned, begins, slashed, capital, drive, driveExact, past, nameOf, namesOf, isVerbatim, verbatimOf, uncOf, deviceOf, prefixOf, shareLen, lenOf, endOfPrefix, prefixIn, driveFigures, nameFigures, namesFigures, figuresOf, parsedFigures}
+use Rattle.prefixes.specs.Leaves.{beginsFrom, slashedFrom, Past}
+
+-- `turn`, `to_capital`, `step_past`
+module _ (b : ℕ) where
+  pub turn-slash : b ≡ 47 → 92 ≡ turned b
+  unfolding turned
+  turn-slash e = rw e
+
+  pub turn-same : (b ≡ 47 → ⊥) → b ≡ turned b
+  unfolding turned
+  turn-same h = simp (ne-eqb b 47 h)
+
+  pub capital-same : b < 97 → b ≡ capital b
+  unfolding capital
+  capital-same h = simp (lt-ltb b 97 h)
+
+  pub capital-down : 97 ≤ b → b - 32 ≡ capital b
+  unfolding capital
+  capital-down h = simp (le-ltb b 97 h)
+
+module _ (a n : ℕ) where
+  pub past-on : a < n → Past a n (a + 1)
+  unfolding past
+  past-on h = record { is = simp (lt-ltb a n h); high = omega arith }
+
+  pub past-end : a ≤ n → n ≤ a → Past a n a
+  unfolding past
+  past-end g h = record { is = simp (le-ltb a n h); high = g }
+
+-- `begins_with`: e says what the loop has kept
+module _ (w s : List ℕ) where
+  pub begins-start : begins w s ≡ beginsFrom w s 0
+  unfolding beginsFrom
+  begins-start = refl
+
+  module _ (i : ℕ) (e : begins w s ≡ beginsFrom w s i) where
+    pub begins-done : length w ≤ i → true ≡ begins w s
+    unfolding beginsFrom begins
+    begins-done h = sym (e ∙ rw (drop-of-length-le w h))
+
+    module _ (h : i < length w) where
+      pub begins-short : length s ≤ i → false ≡ begins w s
+      unfolding beginsFrom begins
+      begins-short g = sym (e ∙ rw (drop-cons w i 0 h, drop-of-length-le s g))
+
+      module _ (g : i < length s) (b : ℕ) (t : b ≡ turned (getD s i 0)) where
+        pub begins-off : (b ≡ getD w i 0 → ⊥) → false ≡ begins w s
+        unfolding beginsFrom begins
+        begins-off n = sym (e ∙ rw (drop-cons w i 0 h, drop-cons s i 0 g, ← t) (simp (ne-eqb b (getD w i 0) n)))
+
+        pub begins-on : b ≡ getD w i 0 → begins w s ≡ beginsFrom w s (i + 1)
+        unfolding beginsFrom begins
+        begins-on y = e ∙ rw (drop-cons w i 0 h, drop-cons s i 0 g, ← t, add-one) (simp (eq-eqb b (getD w i 0) y))
+
+-- what begins with w is as long
+fits : (w s : List ℕ) → begins w s ≡ true → length w ≤ length s
+unfolding begins
+fits [] s h = omega arith
+fits (c ∷ w) [] h = absurd (false≢true h)
+fits (c ∷ w) (x ∷ s) h = split (eqb (turned x) c) (λ e. omega (arith, fits w s (rw e at h))) (λ e. absurd (false≢true (rw e at h)))
+
+-- `has_slash`
+module _ (s : List ℕ) where
+  pub slash-start : slashed s ≡ slashedFrom s 0
+  unfolding slashedFrom
+  slash-start = refl
+
+  module _ (i : ℕ) (e : slashed s ≡ slashedFrom s i) where
+    pub slash-done : length s ≤ i → false ≡ slashed s
+    unfolding slashedFrom slashed
+    slash-done h = sym (e ∙ rw (drop-of-length-le s h))
+
+    module _ (h : i < length s) where
+      pub slash-here : getD s i 0 ≡ 47 → true ≡ slashed s
+      unfolding slashedFrom slashed
+      slash-here g = sym (e ∙ rw (drop-cons s i 0 h) (simp (eq-eqb (getD s i 0) 47 g)))
+
+      pub slash-on : (getD s i 0 ≡ 47 → ⊥) → slashed s ≡ slashedFrom s (i + 1)
+      unfolding slashedFrom slashed
+      slash-on g = e ∙ rw (drop-cons s i 0 h, add-one) (simp (ne-eqb (getD s i 0) 47 g))
+
+-- `is_drive`, `is_drive_exact`
+pub drive-short : (t : List ℕ) → length t < 2 → false ≡ drive t
+unfolding drive
+drive-short [] h = split (isLetter 0) (λ e. rw e) (λ e. rw e)
+drive-short (x ∷ []) h = split (isLetter x) (λ e. rw e) (λ e. rw e)
+drive-short (x ∷ y ∷ t) h = absurd (omega arith)
+
+module _ (t : List ℕ) where
+  drive-long : drive t ≡ true → 2 ≤ length t
+  drive-long h = split (ltb (length t) 2) (λ e. absurd (false≢true (drive-short t (ltb-true (length t) 2 e) ∙ h))) (λ e. ltb-false (length t) 2 e)
+
+  module _ (l : Bool) (e : l ≡ isLetter (getD t 0 0)) where
+    pub drive-here : l ≡ true → eqb (getD t 1 0) 58 ≡ drive t
+    unfolding drive
+    drive-here h = rw (← e, h)
+
+    pub drive-not : l ≡ false → false ≡ drive t
+    unfolding drive
+    drive-not h = rw (← e, h)
+
+  module _ (d : Bool) (e : d ≡ drive t) where
+    pub exact-not : d ≡ false → false ≡ driveExact t
+    unfolding driveExact
+    exact-not h = rw (← e, h)
+
+    module _ (h : d ≡ true) where
+      pub drive-two : 2 ≤ length t
+      drive-two = drive-long (sym e ∙ h)
+
+      pub drive-one : 0 < length t
+      drive-one = omega (arith, drive-two)
+
+      pub exact-end : length t ≡ 2 → true ≡ driveExact t
+      unfolding driveExact
+      exact-end n = rw (← e, h, n)
+
+      pub exact-three : (length t ≡ 2 → ⊥) → 2 < length t
+      exact-three n = omega (arith, drive-two)
+
+      pub exact-sep : (length t ≡ 2 → ⊥) → (b : Bool) → b ≡ isSep Windows (getD t 2 0) → b ≡ driveExact t
+      unfolding driveExact
+      exact-sep n b g = rw (← e, h) (simp (ne-eqb (length t) 2 n) g)
+
+exact-long : (t : List ℕ) → driveExact t ≡ true → 2 ≤ length t
+unfolding driveExact
+exact-long t h = drive-long t (split (drive t) (λ x. x) (λ x. absurd (false≢true (rw x at h))))
+
+-- a part `&s[b..]` is so told; it is what stands behind b bytes
+abbrev part : ℕ → List ℕ → List ℕ
+part b s = take (length s - b) (drop b s)
+
+behind : (b : ℕ) (s : List ℕ) → take (length s - b) (drop b s) ≡ drop b s
+behind b s = take-all (length s - b) (drop b s) (omega (arith, length-drop b s))
+
+-- `name_of`, `names_of`
+whole-end : (sep : ℕ → Bool) (t : List ℕ) (n : ℕ) → EndAt sep t 0 n → n ≡ length (lead sep t)
+unfolding endOf
+whole-end sep t n h = h .is ∙ omega arith
+
+module _ (sep : ℕ → Bool) (i : ℕ) (t : List ℕ) where
+  pub name-is : (n : ℕ) → EndAt sep t 0 n → record { start = i; len = n } ≡ nameOf sep i t
+  unfolding nameOf
+  name-is n h = rw (whole-end sep t n h)
+
+  pub names-are : (a b n : ℕ) → EndAt sep t 0 a → Past a (length t) b → EndAt sep (part b t) 0 n
+      → record { server = record { start = i; len = a }; share = record { start = i + b; len = n } } ≡ namesOf sep i t
+  unfolding namesOf
+  names-are a b n f g h = rw (whole-end sep (part b t) n h, behind b t, g .is, whole-end sep t a f)
+
+-- `is_verbatim`, `verbatim`, `unc`, `parse_prefix`: q, v, d, h are what the tests answered
+part-fits : (w s : List ℕ) (b : ℕ) (q : Bool) → q ≡ begins w (part b s) → q ≡ true → b ≤ length s → b + length w ≤ length s
+part-fits w s b q e y l = omega (arith, fits w (drop b s) (rw (← behind b s) (sym e ∙ y)), length-drop b s)
+
+module _ (s : List ℕ) where
+  module _ (q : Bool) (e : q ≡ begins (63 ∷ 92 ∷ []) (part 2 s)) where
+    pub verb-not : q ≡ false → false ≡ isVerbatim s
+    unfolding isVerbatim
+    verb-not n = rw (← behind 2 s, ← e, n)
+
+    module _ (y : q ≡ true) where
+      pub verb-four : 2 ≤ length s → 4 ≤ length s
+      verb-four l = part-fits (63 ∷ 92 ∷ []) s 2 q e y l
+
+      module _ (h : Bool) (g : h ≡ slashed (take 4 s)) where
+        pub verb-slash : h ≡ true → false ≡ isVerbatim s
+        unfolding isVerbatim
+        verb-slash n = rw (← behind 2 s, ← e, y, ← g, n)
+
+        pub verb-yes : h ≡ false → true ≡ isVerbatim s
+        unfolding isVerbatim
+        verb-yes n = rw (← behind 2 s, ← e, y, ← g, n)
+
+  module _ (q : Bool) (e : q ≡ begins (85 ∷ 78 ∷ 67 ∷ 92 ∷ []) (part 4 s)) where
+    pub unc-eight : q ≡ true → 4 ≤ length s → 8 ≤ length s
+    unc-eight y l = part-fits (85 ∷ 78 ∷ 67 ∷ 92 ∷ []) s 4 q e y l
+
+    pub is-verbatim-unc : (n : Names) → q ≡ true → n ≡ namesOf (isSep OnlyBack) 8 (part 8 s) → VerbatimUnc n ≡ verbatimOf s
+    unfolding verbatimOf
+    is-verbatim-unc n y g = rw (g, behind 8 s, ← behind 4 s, ← e, y)
+
+    module _ (d : Bool) (g : d ≡ driveExact (part 4 s)) (n : q ≡ false) where
+      pub is-verbatim-disk : (x : ℕ) → d ≡ true → x ≡ capital (getD s 4 0) → VerbatimDisk x ≡ verbatimOf s
+      unfolding verbatimOf
+      is-verbatim-disk x y f = rw (f, ← behind 4 s, ← e, n, ← g, y)
+
+      pub is-verbatim-name : (x : Name) → d ≡ false → x ≡ nameOf (isSep OnlyBack) 4 (part 4 s) → Verbatim x ≡ verbatimOf s
+      unfolding verbatimOf
+      is-verbatim-name x y f = rw (f, behind 4 s, ← (rw (behind 4 s) at e), n, ← (rw (behind 4 s) at g), y)
+
+  pub exact-five : (d : Bool) → d ≡ driveExact (part 4 s) → d ≡ true → 4 < length s
+  exact-five d g y = omega (arith, exact-long (drop 4 s) (rw (← behind 4 s) (sym g ∙ y)), length-drop 4 s)
+
+  module _ (n : Names) (e : n ≡ namesOf (isSep Windows) 2 s) where
+    pub unc-bare : n .server .len ≡ 0 → Nothing ≡ uncOf s
+    unfolding uncOf
+    unc-bare z = rw (← e, z)
+
+    module _ (a : n .server .len ≡ 0 → ⊥) where
+      pub unc-lone : n .share .len ≡ 0 → Nothing ≡ uncOf s
+      unfolding uncOf
+      unc-lone z = rw (← e) (simp (ne-eqb (n .server .len) 0 a, z))
+
+      pub unc-both : (n .share .len ≡ 0 → ⊥) → Is (Unc n) ≡ uncOf s
+      unfolding uncOf
+      unc-both b = rw (← e) (simp (ne-eqb (n .server .len) 0 a, ne-eqb (n .share .len) 0 b))
+
+  module _ (d : Bool) (g : d ≡ begins (46 ∷ 92 ∷ []) (part 2 s)) where
+    pub device-four : d ≡ true → 2 ≤ length s → 4 ≤ length s
+    device-four y l = part-fits (46 ∷ 92 ∷ []) s 2 d g y l
+
+    pub is-device : (n : Name) → d ≡ true → n ≡ nameOf (isSep Windows) 4 (part 4 s) → Is (DeviceNs n) ≡ deviceOf s
+    unfolding deviceOf
+    is-device n y h = rw (h, behind 4 s, ← (rw (behind 2 s) at g), y)
+
+    pub is-unc : (u : Parsed) → d ≡ false → u ≡ uncOf (part 2 s) → u ≡ deviceOf s
+    unfolding deviceOf
+    is-unc u n h = h ∙ rw (behind 2 s, ← (rw (behind 2 s) at g), n)
+
+  module _ (q : Bool) (e : q ≡ begins (92 ∷ 92 ∷ []) s) where
+    module _ (y : q ≡ true) where
+      pub slashes-two : 2 ≤ length s
+      slashes-two = fits (92 ∷ 92 ∷ []) s (sym e ∙ y)
+
+      module _ (v : Bool) (f : v ≡ isVerbatim s) where
+        pub verb-long : v ≡ true → 4 ≤ length s
+        unfolding isVerbatim
+        verb-long x =
+            let w : begins (63 ∷ 92 ∷ []) (drop 2 s) ≡ true = split (begins (63 ∷ 92 ∷ []) (drop 2 s)) (λ z. z) (λ z. absurd (false≢true (rw z at (sym f ∙ x)))) in
+            omega (arith, fits (63 ∷ 92 ∷ []) (drop 2 s) w, length-drop 2 s)
+
+        pub prefix-verbatim : (p : Prefix) → v ≡ true → p ≡ verbatimOf s → Is p ≡ prefixOf s
+        unfolding prefixOf
+        prefix-verbatim p x g = rw (g, ← e, y, ← f, x)
+
+        pub prefix-other : (p : Parsed) → v ≡ false → p ≡ deviceOf s → p ≡ prefixOf s
+        unfolding prefixOf
+        prefix-other p x g = rw (g, ← e, y, ← f, x)
+
+    module _ (n : q ≡ false) (d : Bool) (g : d ≡ drive s) where
+      pub prefix-disk : (x : ℕ) → d ≡ true → x ≡ capital (getD s 0 0) → Is (Disk x) ≡ prefixOf s
+      unfolding prefixOf
+      prefix-disk x y h = rw (h, ← e, n, ← g, y)
+
+      pub prefix-none : d ≡ false → Nothing ≡ prefixOf s
+      unfolding prefixOf
+      prefix-none y = rw (← e, n, ← g, y)
+
+pub share-none : (n : ℕ) → n ≡ 0 → 0 ≡ shareLen n
+share-none n e = rw e
+
+pub share-some : (n : ℕ) → (n ≡ 0 → ⊥) → 1 + n ≡ shareLen n
+share-some n h = simp (ne-eqb n 0 h)
+
+-- `prefix_len`
+share-least : (n : ℕ) → n ≤ shareLen n
+share-least n = split (eqb n 0) (λ e. rw e (omega (arith, eqb-true n 0 e))) (λ e. rw e (omega arith))
+
+module _ (p : Prefix) where
+  pub len-verbatim : (n : Name) → p ≡ Verbatim n → 4 + n .len ≡ lenOf p
+  len-verbatim n e = rw e
+
+  pub len-device : (n : Name) → p ≡ DeviceNs n → 4 + n .len ≡ lenOf p
+  len-device n e = rw e
+
+  pub len-unc : (n : Names) → p ≡ Unc n → 2 + n .server .len + 1 + n .share .len ≡ lenOf p
+  len-unc n e = rw e
+
+  pub len-verbatim-unc : (n : Names) (x : ℕ) → p ≡ VerbatimUnc n → x ≡ shareLen (n .share .len) → 8 + n .server .len + x ≡ lenOf p
+  len-verbatim-unc n x e f = rw (e, f)
+
+  module _ (h : lenOf p < 2 ^ 63) where
+    pub fits-verbatim : (n : Name) → p ≡ Verbatim n → Fits w64 (4 + n .len)
+    fits-verbatim n e = let t = rw e at h in record { fits = omega (arith, t) }
+
+    pub fits-device : (n : Name) → p ≡ DeviceNs n → Fits w64 (4 + n .len)
+    fits-device n e = let t = rw e at h in record { fits = omega (arith, t) }
+
+    module _ (n : Names) (e : p ≡ Unc n) where
+      pub fits-unc-1 : Fits w64 (2 + n .server .len)
+      fits-unc-1 = let t = rw e at h in record { fits = omega (arith, t) }
+
+      pub fits-unc-2 : Fits w64 (2 + n .server .len + 1)
+      fits-unc-2 = let t = rw e at h in record { fits = omega (arith, t) }
+
+      pub fits-unc-3 : Fits w64 (2 + n .server .len + 1 + n .share .len)
+      fits-unc-3 = let t = rw e at h in record { fits = omega (arith, t) }
+
+    module _ (n : Names) (e : p ≡ VerbatimUnc n) where
+      pub fits-verbatim-unc-1 : Fits w64 (8 + n .server .len)
+      fits-verbatim-unc-1 = let t = rw e at h in record { fits = omega (arith, t) }
+
+      pub share-small : n .share .len < 2 ^ 63
+      share-small = let t = rw e at h in omega (arith, t, share-least (n .share .len))
+
+      pub fits-verbatim-unc-2 : (x : ℕ) → x ≡ shareLen (n .share .len) → Fits w64 (8 + n .server .len + x)
+      fits-verbatim-unc-2 x f = let t = rw e at h in rw f (record { fits = omega (arith, t) })
+
+pub ruleset lengths = (len-verbatim, len-device, len-unc, len-verbatim-unc, fits-verbatim, fits-device, fits-unc-1, fits-unc-2, fits-unc-3, fits-verbatim-unc-1, share-small, fits-verbatim-unc-2)
+
+pub ruleset prefixes = (
+  turn-slash,
+  turn-same,
+  capital-same,
+  capital-down,
+  past-on,
+  past-end,
+  begins-start,
+  begins-done,
+  begins-short,
+  begins-off,
+  begins-on,
+  slash-start,
+  slash-done,
+  slash-here,
+  slash-on,
+  drive-short,
+  drive-here,
+  drive-not,
+  exact-not,
+  drive-one,
+  exact-end,
+  exact-three,
+  exact-sep,
+  name-is,
+  names-are,
+  verb-not,
+  verb-four,
+  verb-slash,
+  verb-yes,
+  unc-eight,
+  is-verbatim-unc,
+  is-verbatim-disk,
+  is-verbatim-name,
+  exact-five,
+  unc-bare,
+  unc-lone,
+  unc-both,
+  slashes-two,
+  verb-long,
+  prefix-verbatim,
+  prefix-other,
+  device-four,
+  is-device,
+  is-unc,
+  prefix-disk,
+  prefix-none,
+  share-none,
+  share-some,
+)
+
+-- ---- a prefix lies in its path
+by-cond : {A : Type 0} (P : A → Type 0) (b : Bool) (x y : A) → (b ≡ true → P x) → (b ≡ false → P y) → P (cond b x y)
+by-cond P true x y f g = f refl
+by-cond P false x y f g = g refl
+
+abbrev In : List ℕ → Parsed → Type 0
+In s Nothing = Unit
+In s (Is p) = lenOf p ≤ length s
+
+share-in : (a b n : ℕ) → a ≤ n → b ≤ n - past a n → a + shareLen b ≤ n
+unfolding past
+share-in a b n h g =
+    split (eqb b 0)
+    (λ e. rw e (omega arith))
+    (λ e. rw e (split (ltb a n)
+    (λ l. omega (arith, rw l at g, ltb-true a n l))
+    (λ l. absurd (eqb-false b 0 e (omega (arith, rw l at g, ltb-false a n l))))))
+
+names-in : (sep : ℕ → Bool) (i : ℕ) (t : List ℕ) → namesOf sep i t .server .len + shareLen (namesOf sep i t .share .len) ≤ length t
+unfolding namesOf
+names-in sep i t =
+    let a = length (lead sep t) in
+    let l = drop (past a (length t)) t in
+    share-in a (length (lead sep l)) (length t) (lead-short sep t) (omega (arith, lead-short sep l, length-drop (past a (length t)) t))
+
+name-in : (sep : ℕ → Bool) (i b : ℕ) (s : List ℕ) → b ≤ length s → b + nameOf sep i (drop b s) .len ≤ length s
+unfolding nameOf
+name-in sep i b s h = omega (arith, lead-short sep (drop b s), length-drop b s)
+
+verbatim-in : (s : List ℕ) → 4 ≤ length s → lenOf (verbatimOf s) ≤ length s
+unfolding verbatimOf
+verbatim-in s h =
+    by-cond (λ (p : Prefix). lenOf p ≤ length s) (begins (85 ∷ 78 ∷ 67 ∷ 92 ∷ []) (drop 4 s)) _ _
+    (λ e. omega (arith, fits (85 ∷ 78 ∷ 67 ∷ 92 ∷ []) (drop 4 s) e, names-in (isSep OnlyBack) 8 (drop 8 s), length-drop 4 s, length-drop 8 s))
+    (λ _. by-cond (λ (p : Prefix). lenOf p ≤ length s) (driveExact (drop 4 s)) _ _
+    (λ e. omega (arith, exact-long (drop 4 s) e, length-drop 4 s))
+    (λ _. name-in (isSep OnlyBack) 4 4 s h))
+
+device-in : (s : List ℕ) → 2 ≤ length s → In s (deviceOf s)
+unfolding deviceOf uncOf
+device-in s h =
+    by-cond (In s) (begins (46 ∷ 92 ∷ []) (drop 2 s)) _ _
+    (λ e. name-in (isSep Windows) 4 4 s (omega (arith, fits (46 ∷ 92 ∷ []) (drop 2 s) e, length-drop 2 s)))
+    (λ _. let n = namesOf (isSep Windows) 2 (drop 2 s) in
+    by-cond (In s) (eqb (n .server .len) 0) _ _ (λ _. tt)
+    (λ _. by-cond (In s) (eqb (n .share .len) 0) _ _ (λ _. tt)
+    (λ e. omega (arith, rw e at (names-in (isSep Windows) 2 (drop 2 s)), length-drop 2 s))))
+
+pub prefix-in : (s : List ℕ) → In s (prefixOf s)
+unfolding prefixOf
+prefix-in s =
+    by-cond (In s) (begins (92 ∷ 92 ∷ []) s) _ _
+    (λ q. by-cond (In s) (isVerbatim s) _ _
+    (λ v. verbatim-in s (verb-long s true (sym q) refl true (sym v) refl))
+    (λ _. device-in s (fits (92 ∷ 92 ∷ []) s q)))
+    (λ _. by-cond (In s) (drive s) _ _ (λ d. drive-long s d) (λ _. tt))
+
+-- the same of a prefix read with a mode's set
+pub in-path : (k : Seps) (s : List ℕ) → In s (prefixIn k s)
+in-path Unix s = tt
+in-path Windows s = prefix-in s
+in-path OnlyBack s = tt
+
+pub len-within : (k : Seps) (s : List ℕ) (p : Parsed) (q : Prefix) → p ≡ prefixIn k s → p ≡ Is q → lenOf q ≤ length s
+len-within k s p q e f = rw (← e, f) at (in-path k s)
+
+-- so its length can be counted
+pub len-small : (k : Seps) (s : List ℕ) (p : Parsed) (q : Prefix) → p ≡ prefixIn k s → p ≡ Is q → length s * 1 < 2 ^ 63 → lenOf q < 2 ^ 63
+len-small k s p q e f w = omega (arith, len-within k s p q e f)
+
+-- `prefix_end`
+module _ (s : List ℕ) (r : Parsed) (e : r ≡ prefixOf s) where
+  pub end-none : r ≡ Nothing → 0 ≡ endOfPrefix (prefixOf s)
+  end-none h = rw (← e, h)
+
+  module _ (p : Prefix) (h : r ≡ Is p) where
+    pub end-small : length s * 1 < 2 ^ 63 → lenOf p < 2 ^ 63
+    end-small w = let t : lenOf p ≤ length s = rw (← e, h) at (prefix-in s) in omega arith
+
+    pub end-is : (n : ℕ) → n ≡ lenOf p → n ≡ endOfPrefix (prefixOf s)
+    end-is n f = rw (← e, h) f
+
+pub ruleset prefixEnds = (end-none, end-small, end-is)
+
+-- `prefix_in`
+pub windows-prefix : (k : Seps) (s : List ℕ) (r : Parsed) → k ≡ Windows → r ≡ prefixOf s → r ≡ prefixIn k s
+windows-prefix k s r e f = f ∙ rw e
+
+-- `figures_of`
+module _ (p : Prefix) (r : Figures) where
+  pub of-verbatim : (n : Name) → p ≡ Verbatim n → r ≡ nameFigures 1 n → r ≡ figuresOf p
+  of-verbatim n e f = f ∙ rw e
+
+  pub of-verbatim-unc : (n : Names) → p ≡ VerbatimUnc n → r ≡ namesFigures 2 n → r ≡ figuresOf p
+  of-verbatim-unc n e f = f ∙ rw e
+
+  pub of-verbatim-disk : (d : ℕ) → p ≡ VerbatimDisk d → r ≡ driveFigures 3 d → r ≡ figuresOf p
+  of-verbatim-disk d e f = f ∙ rw e
+
+  pub of-device : (n : Name) → p ≡ DeviceNs n → r ≡ nameFigures 4 n → r ≡ figuresOf p
+  of-device n e f = f ∙ rw e
+
+  pub of-unc : (n : Names) → p ≡ Unc n → r ≡ namesFigures 5 n → r ≡ figuresOf p
+  of-unc n e f = f ∙ rw e
+
+  pub of-disk : (d : ℕ) → p ≡ Disk d → r ≡ driveFigures 6 d → r ≡ figuresOf p
+  of-disk d e f = f ∙ rw e
+
+pub of-nothing : (p : Parsed) (r : Figures) → p ≡ Nothing → r ≡ driveFigures 0 0 → r ≡ parsedFigures p
+of-nothing p r e f = f ∙ rw e
+
+pub of-prefix : (p : Parsed) (q : Prefix) (r : Figures) → p ≡ Is q → r ≡ figuresOf q → r ≡ parsedFigures p
+of-prefix p q r e f = f ∙ rw e
+
+pub ruleset figures = (windows-prefix, of-verbatim, of-verbatim-unc, of-verbatim-disk, of-device, of-unc, of-disk, of-nothing, of-prefix)

@@ -1,0 +1,4 @@
+pub mod Prefix
+pub mod Leaves
+pub mod Laws
+pub mod Examples

@@ -1,0 +1,353 @@
+// Windows prefixes: the six kinds, how long each is, and the numbers that stand for each.
+use octets::Seps;
+ghost use mathlib.Core.Path.{_≡_};
+ghost use Prim.Native.Nat.{ℕ, _+_, _-_, _^_, _<_, _≤_};
+ghost use lib.ListN.{length};
+ghost use Rattle.octets.specs.Class.{isSep};
+ghost use Rattle.prefixes.specs.Prefix.{turned, begins, slashed, capital, drive, driveExact, nameOf, namesOf, isVerbatim, verbatimOf, uncOf, deviceOf, prefixOf, prefixIn, shareLen, lenOf, endOfPrefix, driveFigures, nameFigures, namesFigures, figuresOf, parsedFigures};
+ghost use Rattle.prefixes.specs.Leaves.{Past};
+
+// A name: a part of the path.
+pub struct Name {
+    pub start: usize,
+    pub len: usize,
+}
+
+// A server and a share.
+pub struct Names {
+    pub server: Name,
+    pub share: Name,
+}
+
+pub enum Prefix {
+    Verbatim(Name),
+    VerbatimUnc(Names),
+    VerbatimDisk(u8),
+    DeviceNs(Name),
+    Unc(Names),
+    Disk(u8),
+}
+
+pub enum Parsed {
+    Nothing,
+    Is(Prefix),
+}
+
+// A byte, `/` counting as `\`.
+fn turn(b: u8) -> u8
+    ensures { λ r. ⌜ r ≡ turned b ⌝ }
+{
+    if b == 47 {
+        return 92;
+    }
+    b
+}
+
+// Whether s begins with w, where `/` in s counts as `\`.
+fn begins_with(s: &[u8], w: &[u8]) -> bool
+    ensures { λ r. ⌜ r ≡ begins (now (w .entry)) (now (s .entry)) ⌝ }
+{
+    let mut i = 0;
+    while i < w.len() {
+        if s.len() <= i {
+            return false;
+        }
+        let b = turn(s[i]);
+        if b != w[i] {
+            return false;
+        }
+        i += 1;
+    }
+    true
+}
+
+// Whether a byte of s is really `/`.
+fn has_slash(s: &[u8]) -> bool
+    ensures { λ r. ⌜ r ≡ slashed (now (s .entry)) ⌝ }
+{
+    let mut i = 0;
+    while i < s.len() {
+        if s[i] == 47 {
+            return true;
+        }
+        i += 1;
+    }
+    false
+}
+
+fn to_capital(b: u8) -> u8
+    ensures { λ r. ⌜ r ≡ capital b ⌝ }
+{
+    if b < 97 {
+        return b;
+    }
+    b - 32
+}
+
+// Whether a letter and `:` stand at the front.
+fn is_drive(t: &[u8]) -> bool
+    ensures { λ r. ⌜ r ≡ drive (now (t .entry)) ⌝ }
+{
+    if t.len() < 2 {
+        return false;
+    }
+    if octets::is_letter(t[0]) {
+        return t[1] == 58;
+    }
+    false
+}
+
+// The same, and then the end or either separator.
+fn is_drive_exact(t: &[u8]) -> bool
+    ensures { λ r. ⌜ r ≡ driveExact (now (t .entry)) ⌝ }
+{
+    if is_drive(t) {
+        if t.len() == 2 {
+            return true;
+        }
+        return octets::is_sep(Seps::Windows, t[2]);
+    }
+    false
+}
+
+// The name at the front of t, which starts at place i.
+fn name_of(k: Seps, t: &[u8], i: usize) -> Name
+    ensures { λ r. ⌜ r ≡ nameOf (isSep k) i (now (t .entry)) ⌝ }
+{
+    let n = octets::next_sep(k, t, 0);
+    Name { start: i, len: n }
+}
+
+// Behind the separator at place a, of n bytes, if there is one.
+fn step_past(a: usize, n: usize) -> usize
+    requires { ⌜ a ≤ n ⌝ }
+    ensures { λ r. ⌜ Past a n r ⌝ }
+{
+    if a < n {
+        return a + 1;
+    }
+    a
+}
+
+// The two names at the front of t, which starts at place i.
+fn names_of(k: Seps, t: &[u8], i: usize) -> Names
+    requires { ⌜ i ≤ 8 ⌝ }
+    ensures { λ r. ⌜ r ≡ namesOf (isSep k) i (now (t .entry)) ⌝ }
+{
+    let a = octets::next_sep(k, t, 0);
+    let b = step_past(a, t.len());
+    let n = octets::next_sep(k, &t[b..], 0);
+    Names {
+        server: Name { start: i, len: a },
+        share: Name {
+            start: i + b,
+            len: n,
+        },
+    }
+}
+
+// Whether `\\` goes on to a verbatim prefix.
+fn is_verbatim(s: &[u8]) -> bool
+    requires { ⌜ 2 ≤ length (now s) ⌝ }
+    ensures { λ r. ⌜ r ≡ isVerbatim (now (s .entry)) ⌝ }
+{
+    if begins_with(&s[2..], b"?\\") {
+        if has_slash(&s[0..4]) {
+            return false;
+        }
+        return true;
+    }
+    false
+}
+
+// The prefix of a path that starts with `\\?\`.
+fn verbatim(s: &[u8]) -> Prefix
+    requires { ⌜ 4 ≤ length (now s) ⌝ }
+    ensures { λ r. ⌜ r ≡ verbatimOf (now (s .entry)) ⌝ }
+{
+    if begins_with(&s[4..], b"UNC\\") {
+        let n = names_of(Seps::Verbatim, &s[8..], 8);
+        return Prefix::VerbatimUnc(n);
+    }
+    if is_drive_exact(&s[4..]) {
+        let d = to_capital(s[4]);
+        return Prefix::VerbatimDisk(d);
+    }
+    let n = name_of(Seps::Verbatim, &s[4..], 4);
+    Prefix::Verbatim(n)
+}
+
+// Server and share in t, the part behind `\\`, if neither is empty.
+fn unc(t: &[u8]) -> Parsed
+    ensures { λ r. ⌜ r ≡ uncOf (now (t .entry)) ⌝ }
+{
+    let n = names_of(Seps::Windows, t, 2);
+    let a = n.server;
+    let b = n.share;
+    if a.len == 0 {
+        return Parsed::Nothing;
+    }
+    if b.len == 0 {
+        return Parsed::Nothing;
+    }
+    Parsed::Is(Prefix::Unc(n))
+}
+
+// The prefix of a path that starts with `\\` and is not verbatim.
+fn device_or_unc(s: &[u8]) -> Parsed
+    requires { ⌜ 2 ≤ length (now s) ⌝ }
+    ensures { λ r. ⌜ r ≡ deviceOf (now (s .entry)) ⌝ }
+{
+    if begins_with(&s[2..], b".\\") {
+        let n = name_of(Seps::Windows, &s[4..], 4);
+        return Parsed::Is(Prefix::DeviceNs(n));
+    }
+    unc(&s[2..])
+}
+
+// The prefix of a Windows path.
+pub fn parse_prefix(s: &[u8]) -> Parsed
+    ensures { λ r. ⌜ r ≡ prefixOf (now (s .entry)) ⌝ }
+{
+    if begins_with(s, b"\\\\") {
+        if is_verbatim(s) {
+            let p = verbatim(s);
+            return Parsed::Is(p);
+        }
+        return device_or_unc(s);
+    }
+    if is_drive(s) {
+        let d = to_capital(s[0]);
+        return Parsed::Is(Prefix::Disk(d));
+    }
+    Parsed::Nothing
+}
+
+// The prefix of a path read with k, the set of separators of a mode: Unix mode has none.
+pub fn prefix_in(k: Seps, s: &[u8]) -> Parsed
+    ensures { λ r. ⌜ r ≡ prefixIn k (now (s .entry)) ⌝ }
+{
+    match k {
+        Seps::Unix => Parsed::Nothing,
+        Seps::Windows => parse_prefix(s),
+        Seps::Verbatim => Parsed::Nothing,
+    }
+}
+
+fn share_len(n: usize) -> usize
+    requires { ⌜ n < 2 ^ 63 ⌝ }
+    ensures { λ r. ⌜ r ≡ shareLen n ⌝ }
+{
+    if n == 0 {
+        return 0;
+    }
+    1 + n
+}
+
+// How many bytes a prefix takes.
+pub fn prefix_len(p: Prefix) -> usize
+    requires { ⌜ lenOf p < 2 ^ 63 ⌝ }
+    ensures { λ r. ⌜ r ≡ lenOf p ⌝ }
+{
+    match p {
+        Prefix::Verbatim(n) => 4 + n.len,
+        Prefix::VerbatimUnc(n) => {
+            let a = n.server;
+            let b = n.share;
+            8 + a.len + share_len(b.len)
+        }
+        Prefix::VerbatimDisk(_) => 6,
+        Prefix::DeviceNs(n) => 4 + n.len,
+        Prefix::Unc(n) => {
+            let a = n.server;
+            let b = n.share;
+            2 + a.len + 1 + b.len
+        }
+        Prefix::Disk(_) => 2,
+    }
+}
+
+// Where the prefix of a Windows path ends; 0 if it has none.
+pub fn prefix_end(s: &[u8]) -> usize
+    ensures { λ r. ⌜ r ≡ endOfPrefix (prefixOf (now (s .entry))) ⌝ }
+{
+    let p = parse_prefix(s);
+    match p {
+        Parsed::Nothing => 0,
+        Parsed::Is(q) => prefix_len(q),
+    }
+}
+
+// A prefix in numbers: its kind from 1, the capital letter, and the places of its names; zeros for what it has not.
+pub struct Figures {
+    pub kind: usize,
+    pub letter: usize,
+    pub start1: usize,
+    pub len1: usize,
+    pub start2: usize,
+    pub len2: usize,
+}
+
+fn drive_figures(kind: usize, d: u8) -> Figures
+    ensures { λ r. ⌜ r ≡ driveFigures kind d ⌝ }
+{
+    Figures {
+        kind,
+        letter: d as usize,
+        start1: 0,
+        len1: 0,
+        start2: 0,
+        len2: 0,
+    }
+}
+
+fn name_figures(kind: usize, n: Name) -> Figures
+    ensures { λ r. ⌜ r ≡ nameFigures kind n ⌝ }
+{
+    Figures {
+        kind,
+        letter: 0,
+        start1: n.start,
+        len1: n.len,
+        start2: 0,
+        len2: 0,
+    }
+}
+
+fn names_figures(kind: usize, n: Names) -> Figures
+    ensures { λ r. ⌜ r ≡ namesFigures kind n ⌝ }
+{
+    let a = n.server;
+    let b = n.share;
+    Figures {
+        kind,
+        letter: 0,
+        start1: a.start,
+        len1: a.len,
+        start2: b.start,
+        len2: b.len,
+    }
+}
+
+fn prefix_figures(p: Prefix) -> Figures
+    ensures { λ r. ⌜ r ≡ figuresOf p ⌝ }
+{
+    match p {
+        Prefix::Verbatim(n) => name_figures(1, n),
+        Prefix::VerbatimUnc(n) => names_figures(2, n),
+        Prefix::VerbatimDisk(d) => drive_figures(3, d),
+        Prefix::DeviceNs(n) => name_figures(4, n),
+        Prefix::Unc(n) => names_figures(5, n),
+        Prefix::Disk(d) => drive_figures(6, d),
+    }
+}
+
+// The same of a prefix that may be missing: then all are 0.
+pub fn figures_of(p: Parsed) -> Figures
+    ensures { λ r. ⌜ r ≡ parsedFigures p ⌝ }
+{
+    match p {
+        Parsed::Nothing => drive_figures(0, 0),
+        Parsed::Is(q) => prefix_figures(q),
+    }
+}
