@@ -445,17 +445,24 @@ len-within k s p q e f = rw (← e, f) at (in-path k s)
 pub len-small : (k : Seps) (s : List ℕ) (p : Parsed) (q : Prefix) → p ≡ prefixIn k s → p ≡ Is q → length s * 1 < 2 ^ 63 → lenOf q < 2 ^ 63
 len-small k s p q e f w = omega (arith, len-within k s p q e f)
 
--- `prefix_end`
-module _ (s : List ℕ) (r : Parsed) (e : r ≡ prefixOf s) where
-  pub end-none : r ≡ Nothing → 0 ≡ endOfPrefix (prefixOf s)
-  end-none h = rw (← e, h)
+-- `end_of`
+pub end-within : (k : Seps) (s : List ℕ) (p : Parsed) → p ≡ prefixIn k s → endOfPrefix p ≤ length s
+end-within k s p e = rw e (go (prefixIn k s) (in-path k s))
+  where
+    go : (p : Parsed) → In s p → endOfPrefix p ≤ length s
+    go Nothing i = omega arith
+    go (Is p) i = i
+
+module _ (s : List ℕ) (r : Parsed) where
+  pub end-none : r ≡ Nothing → 0 ≡ endOfPrefix r
+  end-none h = rw h
 
   module _ (p : Prefix) (h : r ≡ Is p) where
-    pub end-small : length s * 1 < 2 ^ 63 → lenOf p < 2 ^ 63
-    end-small w = let t : lenOf p ≤ length s = rw (← e, h) at (prefix-in s) in omega arith
+    pub end-small : endOfPrefix r ≤ length s → length s * 1 < 2 ^ 63 → lenOf p < 2 ^ 63
+    end-small w l = let t : lenOf p ≤ length s = rw h at w in omega arith
 
-    pub end-is : (n : ℕ) → n ≡ lenOf p → n ≡ endOfPrefix (prefixOf s)
-    end-is n f = rw (← e, h) f
+    pub end-is : (n : ℕ) → n ≡ lenOf p → n ≡ endOfPrefix r
+    end-is n f = rw h f
 
 pub ruleset prefixEnds = (end-none, end-small, end-is)
 

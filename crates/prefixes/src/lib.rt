@@ -267,11 +267,11 @@ pub fn prefix_len(p: Prefix) -> usize
     }
 }
 
-// Where the prefix of a Windows path ends; 0 if it has none.
-pub fn prefix_end(s: &[u8]) -> usize
-    ensures { λ r. ⌜ r ≡ endOfPrefix (prefixOf (now (s .entry))) ⌝ }
+// Where a prefix of the path s ends; 0 if there is none.
+pub fn end_of(p: Parsed, s: &[u8]) -> usize
+    requires { ⌜ endOfPrefix p ≤ length (now s) ⌝ }
+    ensures { λ r. ⌜ r ≡ endOfPrefix p ⌝ }
 {
-    let p = parse_prefix(s);
     match p {
         Parsed::Nothing => 0,
         Parsed::Is(q) => prefix_len(q),

@@ -1,0 +1,20 @@
+-- What the leaves promise to their callers beside the equation. Nothing here has to be believed.
+use Prim.Native.Nat.{ℕ, _+_, _^_, _<_, _≤_}
+use mathlib.Core.Path.{_≡_}
+use mathlib.Core.List.{List}
+use lib.ListN.{length}
+use Rattle.octets.specs.declared.Seps.{Seps}
+use Rattle.parts.specs.declared.Element.{Element}
+use Rattle.components.specs.declared.Start.{Start}
+use Rattle.components.specs.List.{startOf}
+
+-- where the body of s starts, and that it does so in the path
+pub record OpenAt (k : Seps) (s : List ℕ) (r : Start) : Type 0 where
+  pub is : r ≡ startOf k s
+  pub low : r .end ≤ r .at
+  pub high : r .at ≤ length s
+
+-- r counts the list l, with room for one more
+pub record CountAt (l : List Element) (r : ℕ) : Type 0 where
+  pub is : r ≡ length l
+  pub small : r + 1 < 2 ^ 64

@@ -1,0 +1,368 @@
+// A path's list of components: what stands ahead of the body, the body, elements from either end, and the tests on the head.
+use octets::Seps;
+use parts::Component;
+use parts::Element;
+use parts::Item;
+use parts::Piece;
+use prefixes::Parsed;
+use prefixes::Prefix;
+ghost use mathlib.Core.Path.{_≡_};
+ghost use Prim.Native.Nat.{ℕ, _≤_};
+ghost use lib.ListN.{length};
+ghost use Rattle.parts.specs.Elements.{nthOf, nthBackOf};
+ghost use Rattle.components.specs.List.{dotAt, sepAt, innerSeps, prefixSeps, prefixDir, behindPrefix, dirOf, dirLen, dirPart, prefixPart, headList, wholeOf, listOf, isDisk, rootless, isRoot, hasRoot, wantsPrefix, isAbsolute};
+ghost use Rattle.components.specs.Leaves.{OpenAt, CountAt};
+
+// What document 01's second step finds behind the prefix: nothing, a separator, a root without a byte of its own, a dot.
+pub enum Dir {
+    Bare,
+    Root,
+    Implied,
+    Dot,
+}
+
+// What stands ahead of the body: the prefix and where it ends, step 2, where the body starts, and what separates in it.
+pub struct Start {
+    pub prefix: Parsed,
+    pub end: usize,
+    pub dir: Dir,
+    pub at: usize,
+    pub seps: Seps,
+}
+
+// Whether a separator stands at place i.
+fn sep_at(k: Seps, s: &[u8], i: usize) -> bool
+    ensures { λ r. ⌜ r ≡ sepAt k (now (s .entry)) i ⌝ }
+{
+    if i < s.len() {
+        return octets::is_sep(k, s[i]);
+    }
+    false
+}
+
+// Whether the segment at place i is a lone dot.
+pub fn dot_at(k: Seps, s: &[u8], i: usize) -> bool
+    ensures { λ r. ⌜ r ≡ dotAt k (now (s .entry)) i ⌝ }
+{
+    if i < s.len() {
+        if s[i] == 46 {
+            let j = i + 1;
+            if j == s.len() {
+                return true;
+            }
+            return sep_at(k, s, j);
+        }
+    }
+    false
+}
+
+fn prefix_seps(k: Seps, p: Prefix) -> Seps
+    ensures { λ r. ⌜ r ≡ prefixSeps k p ⌝ }
+{
+    match p {
+        Prefix::Verbatim(_) => Seps::Verbatim,
+        Prefix::VerbatimUnc(_) => Seps::Verbatim,
+        Prefix::VerbatimDisk(_) => Seps::Verbatim,
+        Prefix::DeviceNs(_) => k,
+        Prefix::Unc(_) => k,
+        Prefix::Disk(_) => k,
+    }
+}
+
+// What separates behind a prefix.
+fn inner_seps(k: Seps, p: Parsed) -> Seps
+    ensures { λ r. ⌜ r ≡ innerSeps k p ⌝ }
+{
+    match p {
+        Parsed::Nothing => k,
+        Parsed::Is(q) => prefix_seps(k, q),
+    }
+}
+
+fn prefix_dir(p: Prefix) -> Dir
+    ensures { λ r. ⌜ r ≡ prefixDir p ⌝ }
+{
+    match p {
+        Prefix::Verbatim(_) => Dir::Bare,
+        Prefix::VerbatimUnc(_) => Dir::Bare,
+        Prefix::VerbatimDisk(_) => Dir::Bare,
+        Prefix::DeviceNs(_) => Dir::Implied,
+        Prefix::Unc(_) => Dir::Implied,
+        Prefix::Disk(_) => Dir::Bare,
+    }
+}
+
+// Step 2 where no separator follows the prefix.
+fn behind_prefix(k: Seps, p: Parsed, s: &[u8]) -> Dir
+    ensures { λ r. ⌜ r ≡ behindPrefix k p (now (s .entry)) ⌝ }
+{
+    match p {
+        Parsed::Nothing => {
+            if dot_at(k, s, 0) {
+                return Dir::Dot;
+            }
+            Dir::Bare
+        }
+        Parsed::Is(q) => prefix_dir(q),
+    }
+}
+
+// Step 2, where the prefix ends at e.
+fn dir_of(k: Seps, p: Parsed, s: &[u8], e: usize) -> Dir
+    ensures { λ r. ⌜ r ≡ dirOf k p (now (s .entry)) e ⌝ }
+{
+    if sep_at(k, s, e) {
+        return Dir::Root;
+    }
+    behind_prefix(k, p, s)
+}
+
+fn dir_len(d: Dir) -> usize
+    ensures { λ r. ⌜ r ≡ dirLen d ⌝ }
+{
+    match d {
+        Dir::Bare => 0,
+        Dir::Root => 1,
+        Dir::Implied => 0,
+        Dir::Dot => 1,
+    }
+}
+
+// Where the body starts, and what stands ahead of it.
+pub fn begin(k: Seps, s: &[u8]) -> Start
+    ensures { λ r. ⌜ OpenAt k (now (s .entry)) r ⌝ }
+{
+    let prefix = prefixes::prefix_in(k, s);
+    let end = prefixes::end_of(prefix, s);
+    let dir = dir_of(k, prefix, s, end);
+    let seps = inner_seps(k, prefix);
+    let at = end + dir_len(dir);
+    Start {
+        prefix,
+        end,
+        dir,
+        at,
+        seps,
+    }
+}
+
+fn prefix_count(p: Parsed) -> usize
+    ensures { λ r. ⌜ r ≡ length (prefixPart p 0) ⌝ }
+{
+    match p {
+        Parsed::Nothing => 0,
+        Parsed::Is(_) => 1,
+    }
+}
+
+fn dir_count(d: Dir) -> usize
+    ensures { λ r. ⌜ r ≡ length (dirPart d 0) ⌝ }
+{
+    match d {
+        Dir::Bare => 0,
+        Dir::Root => 1,
+        Dir::Implied => 1,
+        Dir::Dot => 1,
+    }
+}
+
+// How many elements stand ahead of the body.
+pub fn head_count(h: Start) -> usize
+    ensures { λ r. ⌜ CountAt (headList h) r ⌝ }
+{
+    let p = h.prefix;
+    let d = h.dir;
+    prefix_count(p) + dir_count(d)
+}
+
+// Step 2's element, behind a prefix that ends at e.
+fn dir_item(d: Dir, e: usize) -> Item
+    ensures { λ r. ⌜ r ≡ nthOf (dirPart d e) 0 ⌝ }
+{
+    match d {
+        Dir::Bare => Item::Missing,
+        Dir::Root => Item::Here(Element {
+            component: Component::RootDir,
+            start: e,
+            len: 1,
+        }),
+        Dir::Implied => Item::Here(Element {
+            component: Component::RootDir,
+            start: e,
+            len: 0,
+        }),
+        Dir::Dot => Item::Here(Element {
+            component: Component::CurDir,
+            start: e,
+            len: 1,
+        }),
+    }
+}
+
+// Element f of the head.
+fn head_at(h: Start, f: usize) -> Item
+    ensures { λ r. ⌜ r ≡ nthOf (headList h) f ⌝ }
+{
+    let p = h.prefix;
+    let e = h.end;
+    let d = h.dir;
+    match p {
+        Parsed::Nothing => {
+            if f == 0 {
+                return dir_item(d, e);
+            }
+            Item::Missing
+        }
+        Parsed::Is(q) => {
+            if f == 0 {
+                return Item::Here(Element {
+                    component: Component::Prefix(q),
+                    start: 0,
+                    len: e,
+                });
+            }
+            if f == 1 {
+                return dir_item(d, e);
+            }
+            Item::Missing
+        }
+    }
+}
+
+// Element f of the list that a start tells of.
+fn element_of(h: Start, s: &[u8], f: usize) -> Item
+    ensures { λ r. ⌜ r ≡ nthOf (wholeOf h (now (s .entry))) f ⌝ }
+{
+    let n = head_count(h);
+    if f < n {
+        return head_at(h, f);
+    }
+    let k = h.seps;
+    let at = h.at;
+    let p = parts::nth(k, s, at, f - n);
+    parts::lifted(p)
+}
+
+// The element of that list that has b others behind it. Only where the body runs out is it counted.
+fn element_back_of(h: Start, s: &[u8], b: usize) -> Item
+    ensures { λ r. ⌜ r ≡ nthBackOf (wholeOf h (now (s .entry))) b ⌝ }
+{
+    let k = h.seps;
+    let at = h.at;
+    let p = parts::nth_back(k, s, at, s.len(), b);
+    match p {
+        Piece::Found(_) => {
+            return parts::lifted(p);
+        }
+        Piece::Nothing => {}
+    }
+    let m = parts::count(k, s, at);
+    let n = head_count(h);
+    let c = b - m;
+    if c < n {
+        return head_at(h, n - 1 - c);
+    }
+    Item::Missing
+}
+
+// Element f of a path's list.
+pub fn element(k: Seps, s: &[u8], f: usize) -> Item
+    ensures { λ r. ⌜ r ≡ nthOf (listOf k (now (s .entry))) f ⌝ }
+{
+    let h = begin(k, s);
+    element_of(h, s, f)
+}
+
+// The element of a path's list that has b others behind it.
+pub fn element_back(k: Seps, s: &[u8], b: usize) -> Item
+    ensures { λ r. ⌜ r ≡ nthBackOf (listOf k (now (s .entry))) b ⌝ }
+{
+    let h = begin(k, s);
+    element_back_of(h, s, b)
+}
+
+fn total_of(h: Start, s: &[u8]) -> usize
+    ensures { λ r. ⌜ CountAt (wholeOf h (now (s .entry))) r ⌝ }
+{
+    let n = head_count(h);
+    let k = h.seps;
+    let at = h.at;
+    n + parts::count(k, s, at)
+}
+
+// How many elements a path's list has.
+pub fn total(k: Seps, s: &[u8]) -> usize
+    ensures { λ r. ⌜ CountAt (listOf k (now (s .entry))) r ⌝ }
+{
+    let h = begin(k, s);
+    total_of(h, s)
+}
+
+fn is_disk(p: Prefix) -> bool
+    ensures { λ r. ⌜ r ≡ isDisk p ⌝ }
+{
+    match p {
+        Prefix::Verbatim(_) => false,
+        Prefix::VerbatimUnc(_) => false,
+        Prefix::VerbatimDisk(_) => false,
+        Prefix::DeviceNs(_) => false,
+        Prefix::Unc(_) => false,
+        Prefix::Disk(_) => true,
+    }
+}
+
+fn is_rootless(p: Parsed) -> bool
+    ensures { λ r. ⌜ r ≡ rootless p ⌝ }
+{
+    match p {
+        Parsed::Nothing => true,
+        Parsed::Is(q) => is_disk(q),
+    }
+}
+
+fn is_root(d: Dir) -> bool
+    ensures { λ r. ⌜ r ≡ isRoot d ⌝ }
+{
+    match d {
+        Dir::Bare => false,
+        Dir::Root => true,
+        Dir::Implied => false,
+        Dir::Dot => false,
+    }
+}
+
+pub fn has_root(k: Seps, s: &[u8]) -> bool
+    ensures { λ r. ⌜ r ≡ hasRoot k (now (s .entry)) ⌝ }
+{
+    let h = begin(k, s);
+    let d = h.dir;
+    if is_root(d) {
+        return true;
+    }
+    let p = h.prefix;
+    !is_rootless(p)
+}
+
+// Whether a set of separators asks for a prefix that p does not have.
+fn wants_prefix(k: Seps, p: Parsed) -> bool
+    ensures { λ r. ⌜ r ≡ wantsPrefix k p ⌝ }
+{
+    match k {
+        Seps::Unix => false,
+        Seps::Windows => match p {
+            Parsed::Nothing => true,
+            Parsed::Is(_) => false,
+        },
+        Seps::Verbatim => false,
+    }
+}
+
+pub fn is_absolute(k: Seps, s: &[u8]) -> bool
+    ensures { λ r. ⌜ r ≡ isAbsolute k (now (s .entry)) ⌝ }
+{
+    let p = prefixes::prefix_in(k, s);
+    if wants_prefix(k, p) {
+        return false;
+    }
+    has_root(k, s)
+}

@@ -1,0 +1,4 @@
+pub mod Body
+pub mod Elements
+pub mod Steps
+pub mod Laws
