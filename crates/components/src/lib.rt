@@ -31,7 +31,7 @@ pub struct Start {
 }
 
 // Whether a separator stands at place i.
-fn sep_at(k: Seps, s: &[u8], i: usize) -> bool
+pub fn sep_at(k: Seps, s: &[u8], i: usize) -> bool
     ensures { λ r. ⌜ r ≡ sepAt k (now (s .entry)) i ⌝ }
 {
     if i < s.len() {
