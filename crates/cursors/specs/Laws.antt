@@ -52,6 +52,29 @@ module _ (n f b : ℕ) where
 pub left-list : (l : List Element) (n f b : ℕ) (r : Left) → CountAt l n → r ≡ leftOf n f b → r ≡ leftOf (length l) f b
 left-list l n f b r c e = e ∙ rw (c .is)
 
+-- what each answer tells
+module _ (n f b : ℕ) where
+  pub beyond-says : leftOf n f b ≡ Beyond → n < f + b
+  unfolding leftOf
+  beyond-says e =
+      split (ltb n (f + b)) (λ t. ltb-true n (f + b) t) (λ t. split (eqb (f + b) n)
+      (λ u. let z = rw (t, u) at e in let y : _≡_ {A = ℕ} 0 1 = cc in absurd (omega arith))
+      (λ u. let z = rw (t, u) at e in let y : _≡_ {A = ℕ} 0 1 = cc in absurd (omega arith)))
+
+  pub spent-says : leftOf n f b ≡ Spent → f + b ≡ n
+  unfolding leftOf
+  spent-says e =
+      split (ltb n (f + b)) (λ t. let z = rw t at e in let y : _≡_ {A = ℕ} 0 1 = cc in absurd (omega arith)) (λ t. split (eqb (f + b) n)
+      (λ u. eqb-true (f + b) n u)
+      (λ u. let z = rw (t, u) at e in let y : _≡_ {A = ℕ} 0 1 = cc in absurd (omega arith)))
+
+  pub some-says : leftOf n f b ≡ Some → f + b < n
+  unfolding leftOf
+  some-says e =
+      split (ltb n (f + b)) (λ t. let z = rw t at e in let y : _≡_ {A = ℕ} 0 1 = cc in absurd (omega arith)) (λ t. split (eqb (f + b) n)
+      (λ u. let z = rw (t, u) at e in let y : _≡_ {A = ℕ} 0 1 = cc in absurd (omega arith))
+      (λ u. let g = ltb-false n (f + b) t in let m = eqb-false (f + b) n u in omega arith))
+
 -- `start_or`, `end_or`, `is_prefix`
 module _ (i : Item) (p : Element) (e : i ≡ Here p) where
   pub start-here : p .start ≡ startOr i
@@ -197,3 +220,16 @@ module _ (k : Seps) (s : List ℕ) (h : Start) (o : OpenAt k s h) where
       rest-is r l e = rw (← whole-list k s h o, ← c .is) (simp (le-ltb n (f + b) (omega arith)) (rw (e, ← o .is)))
 
 pub ruleset cursors = (rest-dot, rest-some, rest-none, dot-fits, rest-in, rest-front, rest-over, rest-fits, rest-is, left-one, left-front, left-beyond, left-spent, left-some, left-list, start-here, end-here, end-fits, prefix-here, nth-small, back-small, end-nth, right-nth, left-zero, left-prefix, left-first, left-later, empty-zero, empty-past, disk-is, dotted-not, dotted-root, dotted-dot, dot-plain, dot-far, dot-over, dot-one)
+
+-- what the rest's answer tells
+module _ (k : Seps) (s : List ℕ) (f b : ℕ) where
+  pub toomany-says : restAsked k s f b ≡ TooMany → length (listOf k s) < f + b
+  unfolding restAsked
+  toomany-says e = split (ltb (length (listOf k s)) (f + b)) (λ t. ltb-true _ _ t) (λ t. let z = rw t at e in let y : _≡_ {A = ℕ} 0 1 = cc in absurd (omega arith))
+
+  pub rests-says : (w : Span) → restAsked k s f b ≡ Rests w → (f + b ≤ length (listOf k s)) × (w ≡ restOf (dotted (startOf k s) s) (listOf k s) f b)
+  unfolding restAsked
+  rests-says w e =
+      split (ltb (length (listOf k s)) (f + b))
+      (λ t. let z = rw t at e in let y : _≡_ {A = ℕ} 0 1 = cc in absurd (omega arith))
+      (λ t. let z = rw t at e in (ltb-false _ _ t, cc))

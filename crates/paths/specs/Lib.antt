@@ -1,2 +1,4 @@
 pub mod Prefix
+pub mod Steps
 pub mod Laws
+pub mod StepLaws
