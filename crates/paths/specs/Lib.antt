@@ -1,4 +1,6 @@
 pub mod Prefix
 pub mod Steps
+pub mod Tests
 pub mod Laws
 pub mod StepLaws
+pub mod TestLaws

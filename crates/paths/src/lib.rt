@@ -1,12 +1,15 @@
 // The public calls. Each takes the mode as a number and any bytes, and refuses what document 01 says is refused; none has
 // a `requires`. What a call promises is its definition in specs/, a chain of guards in front of what was asked for.
 mod steps;
+mod tests;
 
 use answers::Reply;
 use prefixes::Parsed;
 pub use steps::Cursor;
 pub use steps::Stepped;
 pub use steps::Taken;
+pub use tests::has_root;
+pub use tests::is_absolute;
 ghost use mathlib.Core.Path.{_≡_};
 ghost use Rattle.answers.specs.Outcome.{told};
 ghost use Rattle.paths.specs.Prefix.{refusedPrefix, prefixCall};
