@@ -33,21 +33,22 @@ use Rattle.cursors.specs.Leaves.{In}
 
 -- `left_of`, `left_in`
 module _ (n f b : ℕ) where
-  pub left-front : n < f → Beyond ≡ leftOf n f b
+  pub left-back : n < b → Beyond ≡ leftOf n f b
   unfolding leftOf
-  left-front h = simp (lt-ltb n (f + b) (omega arith))
+  left-back h = simp (lt-ltb n (f + b) (omega arith))
 
-  pub left-beyond : f ≤ n → n - f < b → Beyond ≡ leftOf n f b
-  unfolding leftOf
-  left-beyond g h = simp (lt-ltb n (f + b) (omega arith))
+  module _ (g : b ≤ n) where
+    pub left-some : f < n - b → Some ≡ leftOf n f b
+    unfolding leftOf
+    left-some h = simp (le-ltb n (f + b) (omega arith), ne-eqb (f + b) n (omega arith))
 
-  pub left-spent : f ≤ n → n - f ≡ b → Spent ≡ leftOf n f b
-  unfolding leftOf
-  left-spent g h = simp (le-ltb n (f + b) (omega arith), eq-eqb (f + b) n (omega arith))
+    pub left-spent : f ≡ n - b → Spent ≡ leftOf n f b
+    unfolding leftOf
+    left-spent h = simp (le-ltb n (f + b) (omega arith), eq-eqb (f + b) n (omega arith))
 
-  pub left-some : f ≤ n → b ≤ n - f → (n - f ≡ b → ⊥) → Some ≡ leftOf n f b
-  unfolding leftOf
-  left-some g h e = simp (le-ltb n (f + b) (omega arith), ne-eqb (f + b) n (omega arith))
+    pub left-beyond : n - b ≤ f → (f ≡ n - b → ⊥) → Beyond ≡ leftOf n f b
+    unfolding leftOf
+    left-beyond h e = simp (lt-ltb n (f + b) (omega arith))
 
 pub left-list : (l : List Element) (n f b : ℕ) (r : Left) → CountAt l n → r ≡ leftOf n f b → r ≡ leftOf (length l) f b
 left-list l n f b r c e = e ∙ rw (c .is)
@@ -219,7 +220,7 @@ module _ (k : Seps) (s : List ℕ) (h : Start) (o : OpenAt k s h) where
       unfolding restAsked
       rest-is r l e = rw (← whole-list k s h o, ← c .is) (simp (le-ltb n (f + b) (omega arith)) (rw (e, ← o .is)))
 
-pub ruleset cursors = (rest-dot, rest-some, rest-none, dot-fits, rest-in, rest-front, rest-over, rest-fits, rest-is, left-one, left-front, left-beyond, left-spent, left-some, left-list, start-here, end-here, end-fits, prefix-here, nth-small, back-small, end-nth, right-nth, left-zero, left-prefix, left-first, left-later, empty-zero, empty-past, disk-is, dotted-not, dotted-root, dotted-dot, dot-plain, dot-far, dot-over, dot-one)
+pub ruleset cursors = (rest-dot, rest-some, rest-none, dot-fits, rest-in, rest-front, rest-over, rest-fits, rest-is, left-one, left-back, left-some, left-spent, left-beyond, left-list, start-here, end-here, end-fits, prefix-here, nth-small, back-small, end-nth, right-nth, left-zero, left-prefix, left-first, left-later, empty-zero, empty-past, disk-is, dotted-not, dotted-root, dotted-dot, dot-plain, dot-far, dot-over, dot-one)
 
 -- what the rest's answer tells
 module _ (k : Seps) (s : List ℕ) (f b : ℕ) where

@@ -29,16 +29,15 @@ pub struct Span {
 fn left_of(n: usize, f: usize, b: usize) -> Left
     ensures { λ r. ⌜ r ≡ leftOf n f b ⌝ }
 {
-    if n < f {
-        return Left::Beyond;
+    if b <= n {
+        if f < n - b {
+            return Left::Some;
+        }
+        if f == n - b {
+            return Left::Spent;
+        }
     }
-    if n - f < b {
-        return Left::Beyond;
-    }
-    if n - f == b {
-        return Left::Spent;
-    }
-    Left::Some
+    Left::Beyond
 }
 
 // The same of a path's list.

@@ -123,6 +123,14 @@ module _ (c : Cursor) (l : List Element) (x : Stepped) (i : Item) where
     pub back-here : (t : Bool) → c .front ≡ 0 → t ≡ isHere i → t ≡ true → x ≡ tookAt i off → x ≡ told (refusedStep c) (nextBackIn l c)
     back-here t z g y a = back-is (step-took (length l) c off i x (omega (arith, back-below l i t g y (c .back) e)) a)
 
+-- a step that is not refused
+module _ (l : List Element) (c : Cursor) (h : c .front + c .back < length l) where
+  pub next-took : told (refusedStep c) (nextIn l c) ≡ tookAt (nthOf l (c .front)) (record { mode = c .mode; front = c .front + 1; back = c .back })
+  next-took = sym (front-is c l _ _ refl (step-took (length l) c _ _ _ h refl))
+
+  pub next-back-took : told (refusedStep c) (nextBackIn l c) ≡ tookAt (nthBackOf l (c .back)) (record { mode = c .mode; front = c .front; back = c .back + 1 })
+  next-back-took = sym (back-is c l _ _ refl (step-took (length l) c _ _ _ h refl))
+
 -- `next`, `next_back`
 module _ (c : Cursor) (s : List ℕ) (x : Stepped) where
   pub next-mode : x ≡ refusedStep c Mode → 1 < c .mode → x ≡ told (refusedStep c) (nextCall c s)

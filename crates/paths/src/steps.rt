@@ -50,11 +50,11 @@ fn refuse_step(c: Cursor, r: Reply) -> Stepped
 }
 
 // The element of a step that is Done, and the cursor behind it.
-fn took(i: Item, c: Cursor) -> Stepped
-    ensures { λ a. ⌜ a ≡ tookAt i c ⌝ }
+fn took(i: Item, d: Cursor) -> Stepped
+    ensures { λ a. ⌜ a ≡ tookAt i d ⌝ }
 {
     match i {
-        Item::Missing => refuse_step(c, Reply::Done),
+        Item::Missing => refuse_step(d, Reply::Done),
         Item::Here(e) => {
             let component = e.component;
             Stepped {
@@ -62,7 +62,7 @@ fn took(i: Item, c: Cursor) -> Stepped
                 component: Taken::Is(component),
                 start: e.start,
                 len: e.len,
-                cursor: c,
+                cursor: d,
             }
         }
     }
