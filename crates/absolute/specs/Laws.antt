@@ -142,3 +142,138 @@ unfolding finished tailFrom
 finished-is s t h o =
     rw (whole s, dir-left s t (from (isSep Unix) false s (startOf Unix s .at)) (dirOf Unix Bare s 0))
     (tail-law s (from (isSep Unix) false s (startOf Unix s .at)) t (from-good (isSep Unix) false s (startOf Unix s .at)) ∙ rw (o .is))
+
+-- ---- the walks: what is to come of s from place i on, by what `first` finds there
+
+gap-few : (o : Bool) → length (sepIf o) ≤ 1
+gap-few true = omega arith
+gap-few false = omega arith
+
+module _ (s : List ℕ) (i : ℕ) (r : Piece) (f : FirstAt (isSep Unix) false s i r) (o : Bool) where
+  module _ (g : r ≡ Nothing) (y : Bool) (e : y ≡ ends s) where
+    tail-open : y ≡ true → tailFrom s o i ≡ sepIf o
+    unfolding tailFrom tailOf
+    tail-open k = rw (first-none f g, ← e, k)
+
+    tail-shut : y ≡ false → tailFrom s o i ≡ []
+    unfolding tailFrom tailOf
+    tail-shut k = rw (first-none f g, ← e, k)
+
+  tail-on : (x : Part) → r ≡ Found x → tailFrom s o i ≡ sepIf o ++ (take (x .len) (drop (x .start) s) ++ tailFrom s true (x .start + x .len + 1))
+  unfolding tailFrom tailOf
+  tail-on x g = rw (first-found f g .is)
+
+  -- `tail_len`: e says what the loop has kept
+  module _ (n at : ℕ) (b : Bool) (e : n + length (tailFrom s o i) ≡ length (tailFrom s b at)) where
+    module _ (g : r ≡ Nothing) (y : Bool) (h : y ≡ ends s) (c : n ≤ length s + 1) where
+      pub len-open : (z : ℕ) → y ≡ true → z ≡ length (sepIf o) → TailLen s b at (n + z)
+      len-open z k l = record { is = omega (arith, ap length (tail-open g y h k)); small = omega (arith, gap-few o) }
+
+      pub len-shut : y ≡ false → TailLen s b at n
+      len-shut k = record { is = omega (arith, ap length (tail-shut g y h k)); small = omega arith }
+
+    pub len-on : (x : Part) (z : ℕ) → r ≡ Found x → z ≡ length (sepIf o) → n + z + x .len + length (tailFrom s true (x .start + x .len + 1)) ≡ length (tailFrom s b at)
+    len-on x z g l =
+        let t = first-found f g in
+        let c : length (take (x .len) (drop (x .start) s)) ≡ x .len = length-take-le (x .len) (drop (x .start) s) (omega (arith, length-drop (x .start) s, t .high)) in
+        omega (arith, simp length-append at (ap length (tail-on x g)))
+
+  module _ (n z : ℕ) (l : z ≡ length (sepIf o)) where
+    pub gap-fits : n ≤ length s + 1 → length s * 1 < 2 ^ 63 → Fits w64 (n + z)
+    gap-fits c w = record { fits = omega (arith, gap-few o) }
+
+    module _ (x : Part) (g : r ≡ Found x) (c : n ≤ i) where
+      pub len-low : n + z + x .len ≤ x .start + x .len + 1
+      len-low = let t = first-found f g in omega (arith, gap-few o, t .low)
+
+      pub len-high : n + z + x .len ≤ length s + 1
+      len-high = let t = first-found f g in omega (arith, gap-few o, t .low, t .high)
+
+      pub len-fits : Fits w64 (n + z + x .len)
+      len-fits = let t = first-found f g in record { fits = omega (arith, gap-few o, t .low, t .high, t .room) }
+
+pub ruleset lens = (len-open, len-shut, len-on, gap-fits, len-low, len-high, len-fits)
+
+-- `write_tail`: f says what the loop has kept
+module _ (w b s : List ℕ) (i : ℕ) (o : Bool) (n : ℕ) (out : List ℕ) (f : Front w b (tailFrom s o i) n out) (r : Piece) (g : FirstAt (isSep Unix) false s i r) where
+  module _ (x : Part) (h : r ≡ Found x) where
+    gap-next : Front w b (sepIf o ++ (take (x .len) (drop (x .start) s) ++ tailFrom s true (x .start + x .len + 1))) n out
+    gap-next = rw (tail-on s i r g o x h) at f
+
+    pub on-gap : n + length (sepIf o) ≤ length out
+    on-gap = front-room (sepIf o) (take (x .len) (drop (x .start) s) ++ tailFrom s true (x .start + x .len + 1)) gap-next
+
+    module _ (m : ℕ) (one : List ℕ) (p : m ≡ n + length (sepIf o)) (q : one ≡ over (take n out ++ sepIf o) out) where
+      part-next : Front w b (take (x .start + x .len - x .start) (drop (x .start) s) ++ tailFrom s true (x .start + x .len + 1)) m one
+      part-next = rw (add-sub-cancel-left (x .start) (x .len)) (front-push (sepIf o) (take (x .len) (drop (x .start) s) ++ tailFrom s true (x .start + x .len + 1)) gap-next q p)
+
+      pub on-room : m + length (take (x .start + x .len - x .start) (drop (x .start) s)) ≤ length one
+      on-room = front-room (take (x .start + x .len - x .start) (drop (x .start) s)) (tailFrom s true (x .start + x .len + 1)) part-next
+
+      pub on-put : (k : ℕ) (after : List ℕ) → k ≡ m + length (take (x .start + x .len - x .start) (drop (x .start) s)) → after ≡ over (take m one ++ take (x .start + x .len - x .start) (drop (x .start) s)) one → Front w b (tailFrom s true (x .start + x .len + 1)) k after
+      on-put k after c e = front-push (take (x .start + x .len - x .start) (drop (x .start) s)) (tailFrom s true (x .start + x .len + 1)) part-next e c
+
+  module _ (h : r ≡ Nothing) (y : Bool) (e : y ≡ ends s) where
+    pub end-shut : y ≡ false → out ≡ over w b
+    end-shut k = front-all (rw (tail-shut s i r g o h y e k) at f)
+
+    module _ (k : y ≡ true) where
+      gap-last : Front w b (sepIf o ++ []) n out
+      gap-last = rw append-nil (rw (tail-open s i r g o h y e k) at f)
+
+      pub end-room : n + length (sepIf o) ≤ length out
+      end-room = front-room (sepIf o) [] gap-last
+
+      pub end-put : (m : ℕ) (after : List ℕ) → m ≡ n + length (sepIf o) → after ≡ over (take n out ++ sepIf o) out → after ≡ over w b
+      end-put m after p q = front-all (front-push (sepIf o) [] gap-last q p)
+
+pub front-long : (w b rest : List ℕ) (n : ℕ) (out : List ℕ) → Front w b rest n out → length out ≡ length b
+front-long w b rest n out f = f .long
+
+pub ruleset writes = (front-at, on-gap, on-room, on-put, end-shut, end-room, end-put, front-long)
+
+-- ---- `finish`
+module _ (s t : List ℕ) (h : Start) (p : OpenAt Unix s h) (o : Bool) (q : o ≡ wants Unix t) (m : ℕ) (l : TailLen s o (h .at) m) where
+  finish-is : finished s t ≡ t ++ tailFrom s o (h .at)
+  finish-is = finished-is s t h p ∙ rw q
+
+  finish-long : length (finished s t) ≡ length t + m
+  finish-long = omega (arith, l .is, ap length finish-is, length-append t (tailFrom s o (h .at)))
+
+  pub finish-room : (a : View) (b : List ℕ) → length b < length t + m → a ≡ refusedView Room → Wrote (result (finished s t)) a b b
+  finish-room a b k e = rw e (no-room (omega (arith, finish-long)))
+
+  pub finish-done : (b one two : List ℕ) → length t + m ≤ length b → one ≡ over t b → two ≡ over (take (length t) one ++ tailFrom s o (h .at)) one → Wrote (result (finished s t)) (seen 0 (length t + m)) b two
+  finish-done b one two k e f = filled (omega (arith, finish-long)) (sym finish-long) (f ∙ rw (finish-is, e, take-over t b (length t) refl, over-over t (tailFrom s o (h .at)) b))
+
+pub ruleset finishes = (finish-room, finish-done)
+
+-- ---- `absolute`
+module _ (s cwd : List ℕ) (a : View) (b : List ℕ) where
+  pub abs-empty : length s ≡ 0 → a ≡ refusedView Empty → Wrote (absoluteOf s cwd) a b b
+  unfolding absoluteOf
+  abs-empty h e = write-stops Empty _ a (eq-eqb (length s) 0 h) e
+
+  module _ (n : length s ≡ 0 → ⊥) (x : Bool) (d : x ≡ isAbsolute Unix s) (y : Bool) (after : List ℕ) where
+    pub abs-two : x ≡ true → y ≡ twoSlashes s → y ≡ true → Wrote (result (finished s (47 ∷ 47 ∷ []))) a b after → Wrote (absoluteOf s cwd) a b after
+    unfolding absoluteOf startFor
+    abs-two h k l w = write-goes Empty _ a (ne-eqb (length s) 0 n) (write-goes Base _ a (rw (← d, h)) (rw (← d, h, ← k, l) w))
+
+    pub abs-one : x ≡ true → y ≡ twoSlashes s → y ≡ false → Wrote (result (finished s (47 ∷ []))) a b after → Wrote (absoluteOf s cwd) a b after
+    unfolding absoluteOf startFor
+    abs-one h k l w = write-goes Empty _ a (ne-eqb (length s) 0 n) (write-goes Base _ a (rw (← d, h)) (rw (← d, h, ← k, l) w))
+
+    pub abs-cwd : x ≡ false → y ≡ sepAt Unix cwd 0 → y ≡ true → Wrote (result (finished s cwd)) a b after → Wrote (absoluteOf s cwd) a b after
+    unfolding absoluteOf startFor
+    abs-cwd h k l w = write-goes Empty _ a (ne-eqb (length s) 0 n) (write-goes Base _ a (rw (← d, h, ← k, l)) (rw (← d, h) w))
+
+  pub abs-base : (x y : Bool) → (length s ≡ 0 → ⊥) → x ≡ isAbsolute Unix s → x ≡ false → y ≡ sepAt Unix cwd 0 → y ≡ false → a ≡ refusedView Base → Wrote (absoluteOf s cwd) a b b
+  unfolding absoluteOf startFor
+  abs-base x y n d h k l e = write-goes Empty _ a (ne-eqb (length s) 0 n) (write-stops Base _ a (rw (← d, h, ← k, l)) e)
+
+pub ruleset replies = (abs-empty, abs-two, abs-one, abs-cwd, abs-base)
+
+-- "The current directory's content is looked at only for a relative path": for an absolute one any other gives the same
+pub content-unread : (s c d : List ℕ) → isAbsolute Unix s ≡ true → absoluteOf s c ≡ absoluteOf s d
+unfolding absoluteOf startFor
+content-unread s c d h = rw h

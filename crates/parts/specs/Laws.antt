@@ -514,13 +514,15 @@ module _ (sep : ℕ → Bool) where
     put-good : (i : ℕ) (xs : List ℕ) (l : List Element) → drop i s ≡ xs → Goods sep v s l → (q : Sort) → Sorted v (length (lead sep xs)) q → Goods sep v s (put q i (length (lead sep xs)) l)
     unfolding Goods
     put-good i xs l e u Skip h = u
-    put-good i xs l e u (Is k) h =
-        (record {
-          some = h .0;
-          inside = omega (arith, h .0, lead-short sep xs, ap length e, length-drop i s);
-          clear = λ j m. ap sep (sym (getD-drop i s j 0) ∙ ap (λ (w : List ℕ). getD w j 0) e) ∙ lead-clear xs j m;
-          bodily = h .1;
-        }, u)
+    put-good i xs l e u (Is k) h = (
+      record {
+        some = h .0;
+        inside = omega (arith, h .0, lead-short sep xs, ap length e, length-drop i s);
+        clear = λ j m. ap sep (sym (getD-drop i s j 0) ∙ ap (λ (w : List ℕ). getD w j 0) e) ∙ lead-clear xs j m;
+        bodily = h .1;
+      },
+      u,
+    )
 
     segment-good : (i : ℕ) (xs : List ℕ) (l : List Element) → drop i s ≡ xs → Goods sep v s l → Goods sep v s (put (sortOf v (lead sep xs)) i (length (lead sep xs)) l)
     segment-good i xs l e u = put-good i xs l e u (sortOf v (lead sep xs)) (sorted v (length (lead sep xs)) (getD (lead sep xs) 0 0) (getD (lead sep xs) 1 0))
