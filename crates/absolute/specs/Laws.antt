@@ -1,5 +1,5 @@
 -- Laws of `absolute`: what the two walks count and write is what the definition says, and one law a way through each function.
-use Prim.Native.Nat.{ℕ, zero, suc, _+_, _-_, _*_, _^_, _<_, _≤_}
+use Prim.Native.Nat.{ℕ, _+_, _-_, _*_, _^_, _<_, _≤_}
 use mir.Syntax.{w64}
 use mir.Val.{Fits}
 use native.Mathlib.Nat.{add-sub-cancel-left}
@@ -16,7 +16,7 @@ use Rattle.octets.specs.declared.Seps.the-variants.{Unix}
 use Rattle.answers.specs.declared.Reply.the-variants.{Empty, Base, Room}
 use Rattle.answers.specs.declared.View.{View}
 use Rattle.answers.specs.Reply.{refusedView, seen}
-use Rattle.answers.specs.Outcome.{result, based}
+use Rattle.answers.specs.Outcome.{result}
 use Rattle.answers.specs.Written.{over, Wrote}
 use Rattle.buffers.specs.Laws.{over-take, over-over, take-over, no-room, filled, Front, front-all, front-room, front-push, front-at, write-stops, write-goes}
 use Rattle.prefixes.specs.declared.Parsed.the-variants.{Nothing as Bare}
@@ -88,6 +88,11 @@ pub ruleset gaps = (gap-room, gap-one, gap-put, gap-no, gap-left)
 
 glued-if : (t : List ℕ) → glued Unix t ≡ t ++ sepIf (wants Unix t)
 glued-if t = split (wants Unix t) (λ e. rw e (glued-open Unix t e)) (λ e. rw (e, append-nil) (glued-shut Unix t e))
+
+-- of a t that is not empty, `glued` asks what the sentence asks: whether it ends in a separator
+pub wants-ends : (t : List ℕ) → (length t ≡ 0 → ⊥) → wants Unix t ≡ not (ends t)
+unfolding wants ends sepAt
+wants-ends t h = rw (ne-eqb (length t) 0 h, lt-ltb (length t - 1) (length t) (omega arith))
 
 kept : (c : Component) → Bodily false c → leftOut c ≡ false
 kept (Prefix p) h = refl
