@@ -2,6 +2,7 @@
 use Prim.Native.Nat.{ℕ, zero, suc, _+_, _-_, _<_, _≤_, zero-le}
 use mathlib.Core.Path.{_≡_, refl, sym, ap, _∙_}
 use mathlib.Core.List.{List, [], _∷_, _++_, append-assoc, append-nil}
+use mathlib.Core.Bool.{Bool, true, false}
 use native.Mathlib.Nat.{le-of-suc-le-suc, not-suc-le-zero}
 use native.Mathlib.Numerals.{add-one}
 use native.Mathlib.Omega.{arith}
@@ -11,7 +12,8 @@ use borrow.Rule.Slice.PartMut.{midOf, putMid}
 use Rattle.answers.specs.declared.Reply.{Reply}
 use Rattle.answers.specs.declared.Reply.the-variants.{Room}
 use Rattle.answers.specs.Reply.{refusedView, seen}
-use Rattle.answers.specs.Outcome.{refuse, result}
+use Rattle.answers.specs.declared.View.{View}
+use Rattle.answers.specs.Outcome.{Outcome, refuse, result, guard}
 use Rattle.answers.specs.Written.{over, answered, left, Wrote}
 use borrow.Author.Tests.{le-leb, lt-leb}
 
@@ -169,3 +171,25 @@ back-push {w} {b} {out} {after} {k} r x j f p ek =
     let lk : length (take j out ++ x) ≡ k = length-append (take j out) x ∙ omega arith in
     let q : after ≡ take j b ++ (drop j w ++ drop (length w) b) = p ∙ rw (lk, low, high, cut) (simp append-assoc) in
     record { before = omega (arith, f .before); room = f .room; long = ap length p ∙ length-over (take j out ++ x) out (omega (arith, f .before, f .room, f .long)) ∙ f .long; stands = q; to-come = ap (take j) sp ∙ take-at r (x ++ drop k w) j lr }
+
+-- t is to be written at n, behind what stands there: the start of a loop that goes on from n
+pub front-at : (b t : List ℕ) (n : ℕ) → n + length t ≤ length b → Front (take n b ++ t) b t n b
+front-at b t n h =
+    let l : length (take n b) ≡ n = length-take-le n b (omega arith) in
+    record {
+      within = omega (arith, length-append (take n b) t);
+      room = omega (arith, length-append (take n b) t);
+      long = refl;
+      stands = rw (take-at (take n b) t n l) (over-take b n (omega arith));
+      to-come = drop-at (take n b) t n l;
+    }
+
+-- a guard in front of what is written: it stops with its reply, or goes on
+module _ (r : Reply) (o : Outcome (List ℕ)) (a : View) {t : Bool} {b : List ℕ} where
+  pub write-stops : t ≡ true → a ≡ refusedView r → Wrote (guard t r o) a b b
+  unfolding guard
+  write-stops h e = rw (h, e) refused
+
+  pub write-goes : {after : List ℕ} → t ≡ false → Wrote o a b after → Wrote (guard t r o) a b after
+  unfolding guard
+  write-goes h w = rw h w

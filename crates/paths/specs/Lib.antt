@@ -4,3 +4,5 @@ pub mod Tests
 pub mod Laws
 pub mod StepLaws
 pub mod TestLaws
+pub mod Absolute
+pub mod AbsoluteLaws
