@@ -144,6 +144,7 @@ fn head_up(d: Dir, left: usize) -> View
                 len: 0,
             };
         }
+        return answers::refuse_view(Reply::Absent);
     }
     answers::refuse_view(Reply::Absent)
 }
