@@ -1,2 +1,4 @@
 pub mod Prefix
 pub mod Laws
+pub mod Views
+pub mod ViewLaws

@@ -1,7 +1,14 @@
 // The public calls. Each takes the mode as a number and any bytes, and refuses what document 01 says is refused; none has
 // a `requires`. What a call promises is its definition in specs/, a chain of guards in front of what was asked for.
+mod view;
+
 use answers::Reply;
 use prefixes::Parsed;
+pub use view::ancestor;
+pub use view::extension;
+pub use view::file_name;
+pub use view::file_stem;
+pub use view::parent;
 ghost use mathlib.Core.Path.{_≡_};
 ghost use Rattle.answers.specs.Outcome.{told};
 ghost use Rattle.paths.specs.Prefix.{refusedPrefix, prefixCall};
