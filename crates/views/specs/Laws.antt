@@ -46,7 +46,7 @@ use Rattle.components.specs.Laws.{dot-past, whole-list}
 use Rattle.views.specs.declared.Reached.{Reached}
 use Rattle.views.specs.declared.Reached.the-variants.{Body, Head}
 use Rattle.views.specs.Views.{onDisk, isBare, dotBehind, dotDisk, cutOf, leavesKind, leaves, climbs, upOf, parentOf, ancestorOf, isNormal, named, lastName, hasDot, lastDot, ofName, wholeSeen, stemSeen, extensionSeen}
-use Rattle.views.specs.Leaves.{ViewAt, CutAt, leftOf, Steps, ClimbAt, isLone, headUp, isName, NameAt, dotIn, DotAt}
+use Rattle.views.specs.Leaves.{ViewAt, CutAt, leftOf, Steps, ClimbAt, headUp, isName, NameAt, dotIn, DotAt}
 
 -- ---- `dot_disk`
 module _ (k : Seps) (h : Start) (s : List ℕ) (a : Bool) (e : a ≡ onDisk (h .prefix)) where
@@ -147,27 +147,29 @@ pub climb-in : (sep : ℕ → Bool) (v : Bool) (s : List ℕ) (lo n : ℕ) (r : 
 climb-in sep v s lo n r e c g = (rw g at (c .is)) .1
 
 -- ---- `head_up`
-module _ (d : Dir) (n : ℕ) (b : Bool) (e : b ≡ isLone d) (r : View) where
-  pub up-is-fixed : b ≡ false → r ≡ refusedView Absent → r ≡ headUp d n
-  unfolding headUp
-  up-is-fixed y f = f ∙ rw (← e, y)
+pub up-fixed : (d x : Dir) (n : ℕ) (r : View) → d ≡ x → refusedView Absent ≡ headUp x n → r ≡ refusedView Absent → r ≡ headUp d n
+up-fixed d x n r y f e = e ∙ f ∙ rw y
 
-  pub up-is-long : b ≡ true → (n ≡ 1 → ⊥) → r ≡ refusedView Absent → r ≡ headUp d n
-  unfolding headUp
-  up-is-long y z f = f ∙ rw (← e, y, ne-eqb n 1 z)
+module _ (d : Dir) (n : ℕ) (y : d ≡ Lone) where
+  pub up-lone : n ≡ 1 → seen 0 0 ≡ headUp d n
+  up-lone z = rw (y, z)
 
-pub up-is-lone : (d : Dir) (n : ℕ) (b : Bool) → b ≡ isLone d → b ≡ true → n ≡ 1 → seen 0 0 ≡ headUp d n
-unfolding headUp
-up-is-lone d n b e y z = rw (← e, y, z)
+  pub up-long : (n ≡ 1 → ⊥) → (r : View) → r ≡ refusedView Absent → r ≡ headUp d n
+  up-long z r e = e ∙ rw (y, ne-eqb n 1 z)
 
 head-short : (d : Dir) (n : ℕ) (s : List ℕ) → headUp d n .start + headUp d n .len ≤ length s
-unfolding headUp
-head-short d n s =
-    split (isLone d)
-    (λ e. rw e (split (eqb n 1) (λ f. rw f (omega arith)) (λ f. rw f (omega arith))))
-    (λ e. rw e (omega arith))
+head-short Bare n s = omega arith
+head-short Root n s = omega arith
+head-short Implied n s = omega arith
+head-short Lone n s = split (eqb n 1) (λ f. rw f (omega arith)) (λ f. rw f (omega arith))
 
 -- a lone dot stands behind no prefix
+abbrev isLone : Dir → Bool
+isLone Bare = false
+isLone Root = false
+isLone Implied = false
+isLone Lone = true
+
 prefix-dir : (p : Prefix) → isLone (prefixDir p) ≡ false
 prefix-dir (Verbatim n) = refl
 prefix-dir (VerbatimUnc n) = refl
@@ -184,31 +186,25 @@ dir-lone : (k : Seps) (s : List ℕ) (p : Parsed) (i : ℕ) → isLone (dirOf k 
 unfolding dirOf
 dir-lone k s p i h = split (sepAt k s i) (λ e. absurd (false≢true (rw e at h))) (λ e. behind-lone k s p (rw e at h))
 
--- the last element of any other head is none that leaves
-head-stays : (p : Parsed) (d : Dir) (e : ℕ) → isLone d ≡ false → leaves (nthBackOf (prefixPart p e ++ dirPart d e) 0) ≡ false
-unfolding nthBackOf nthOf
-head-stays Nothing Bare e h = refl
-head-stays Nothing Root e h = refl
-head-stays Nothing Implied e h = refl
-head-stays p Lone e h = absurd (false≢true (sym h))
-head-stays (Is p) Bare e h = refl
-head-stays (Is p) Root e h = refl
-head-stays (Is p) Implied e h = refl
+-- where the last element of a list is none that leaves
+stays : (dot : Bool) (l : List Element) (n : ℕ) → leaves (nthBackOf l 0) ≡ false → told refusedView (upOf dot l (suc n)) ≡ refusedView Absent
+unfolding upOf told guard
+stays dot l n e = rw (climbs-first l n e)
 
-lone-up : (dot : Bool) (d : Dir) (e n : ℕ) → isLone d ≡ true → told refusedView (upOf dot (dirPart d e) (suc n)) ≡ headUp d (suc n)
-unfolding upOf headUp told guard climbs cutOf nthBackOf nthOf
-lone-up dot Bare e n y = absurd (false≢true y)
-lone-up dot Root e n y = absurd (false≢true y)
-lone-up dot Implied e n y = absurd (false≢true y)
-lone-up dot Lone e zero y = split dot (λ f. rw f) (λ f. rw f)
-lone-up dot Lone e (suc n) y = rw (climbs-past (dirPart Lone e) (suc (suc n)) (omega arith), ne-eqb (suc (suc n)) 1 (λ z. omega arith))
+lone-up : (dot : Bool) (e n : ℕ) → told refusedView (upOf dot (dirPart Lone e) (suc n)) ≡ headUp Lone (suc n)
+unfolding upOf told guard climbs cutOf nthBackOf nthOf
+lone-up dot e zero = split dot (λ f. rw f) (λ f. rw f)
+lone-up dot e (suc n) = rw (climbs-past (dirPart Lone e) (suc (suc n)) (omega arith), ne-eqb (suc (suc n)) 1 (λ z. omega arith))
 
 head-up-of : (dot : Bool) (p : Parsed) (d : Dir) (e n : ℕ) → (isLone d ≡ true → p ≡ Nothing) → told refusedView (upOf dot (prefixPart p e ++ dirPart d e) (suc n)) ≡ headUp d (suc n)
-unfolding upOf headUp told guard
-head-up-of dot p d e n f =
-    split (isLone d)
-    (λ y. rw (f y) (lone-up dot d e n y))
-    (λ y. rw (climbs-first (prefixPart p e ++ dirPart d e) n (head-stays p d e y), y))
+unfolding nthBackOf nthOf
+head-up-of dot Nothing Bare e n f = stays dot [] n refl
+head-up-of dot (Is p) Bare e n f = stays dot (prefixPart (Is p) e) n refl
+head-up-of dot Nothing Root e n f = stays dot (dirPart Root e) n refl
+head-up-of dot (Is p) Root e n f = stays dot (prefixPart (Is p) e ++ dirPart Root e) n refl
+head-up-of dot Nothing Implied e n f = stays dot (dirPart Implied e) n refl
+head-up-of dot (Is p) Implied e n f = stays dot (prefixPart (Is p) e ++ dirPart Implied e) n refl
+head-up-of dot p Lone e n f = rw (f refl) (lone-up dot e n)
 
 head-alone : (k : Seps) (s : List ℕ) (h : Start) → OpenAt k s h → (dot : Bool) (m : ℕ) → 0 < m → told refusedView (upOf dot (headList h) m) ≡ headUp (h .dir) m
 unfolding headList startOf
@@ -352,7 +348,7 @@ pub ancestor-whole : (k : Seps) (s : List ℕ) (n : ℕ) → n ≡ 0 → ViewAt 
 unfolding ancestorOf told
 ancestor-whole k s n h = record { is = rw h; inside = omega arith }
 
-pub ruleset climbing = (back-inside, disk-none, disk-rooted, disk-dot, steps-start, climb-body, climb-head, climb-on, climb-in, head-fits, head-dot, head-plain, before-none, before-fits, before-part, up-is-lone, up-is-long, up-is-fixed, up-body, up-head, parent-is, ancestor-up, ancestor-whole)
+pub ruleset climbing = (back-inside, disk-none, disk-rooted, disk-dot, steps-start, climb-body, climb-head, climb-on, climb-in, head-fits, head-dot, head-plain, before-none, before-fits, before-part, up-fixed, up-lone, up-long, up-body, up-head, parent-is, ancestor-up, ancestor-whole)
 
 -- ---- `name_part`
 
@@ -429,17 +425,17 @@ module _ (s : List ℕ) (lo hi i : ℕ) (e : dotIn s lo hi ≡ dotIn s lo i) whe
     unfolding dotIn
     dot-here y =
         let n : length (take (i - 1 - lo) (drop lo s)) ≡ i - 1 - lo = length-take-le (i - 1 - lo) (drop lo s) (omega (arith, length-drop lo s)) in
-        record { is = rw (e, part-snoc s lo i l (omega arith), y, dot-snoc (take (i - 1 - lo) (drop lo s)), n) (omega arith); low = omega arith; high = λ z. omega arith }
+        record { is = rw (e, part-snoc s lo i l (omega arith), y, dot-snoc (take (i - 1 - lo) (drop lo s)), n) (omega arith); low = omega arith; high = omega arith; before = λ z. omega arith }
 
     pub dot-more : (getD s (i - 1) 0 ≡ 46 → ⊥) → dotIn s lo hi ≡ dotIn s lo (i - 1)
     unfolding dotIn
     dot-more n = e ∙ rw (part-snoc s lo i l (omega arith), dot-plain (getD s (i - 1) 0) n (take (i - 1 - lo) (drop lo s)))
 
-  pub dot-out : i ≤ lo → DotAt s lo hi lo
+  pub dot-out : i ≤ lo → lo ≤ hi → DotAt s lo hi lo
   unfolding dotIn lastDot
-  dot-out h =
+  dot-out h l =
       let z : i - lo ≡ 0 = omega arith in
-      record { is = rw (e, z) (omega arith); low = omega arith; high = λ n. absurd (n refl) }
+      record { is = rw (e, z) (omega arith); low = omega arith; high = l; before = λ n. absurd (n refl) }
 
 -- ---- the three views of a name
 
@@ -471,38 +467,37 @@ module _ (k : Seps) (s : List ℕ) (p : Piece) (a : NameAt k s p) (q : Part) (g 
     unfolding dotIn
     place = rw (← add-sub-cancel-left (q .start) (q .len)) (t .is)
 
-    module _ (z : d ≡ q .start) where
-      zeroth : lastDot (take (q .len) (drop (q .start) s)) ≡ 0
-      zeroth = omega (arith, place)
+    pub dot-fits : Fits w64 (d + 1)
+    dot-fits = let b = rw g at (a .spans) in record { fits = omega (arith, b) }
 
-      pub stem-whole : ViewAt (ofName stemSeen k s) s (seen (q .start) (q .len))
-      unfolding stemSeen told
-      stem-whole = record { is = rw (of-name stemSeen, zeroth); inside = name-ends }
+    none : d ≡ q .start → lastDot (take (q .len) (drop (q .start) s)) ≡ 0
+    none z = omega (arith, place)
 
-      pub extension-none : (r : View) → r ≡ refusedView Absent → ViewAt (ofName extensionSeen k s) s r
-      unfolding extensionSeen told guard
-      extension-none r e = record { is = e ∙ rw (of-name extensionSeen, zeroth); inside = rw e (omega arith) }
+    some : (d ≡ q .start → ⊥) → eqb (lastDot (take (q .len) (drop (q .start) s))) 0 ≡ false
+    some z = ne-eqb (lastDot (take (q .len) (drop (q .start) s))) 0 (λ y. z (omega (arith, place)))
+
+    pub stem-whole : d ≤ q .start → ViewAt (ofName stemSeen k s) s (seen (q .start) (q .len))
+    unfolding stemSeen told
+    stem-whole z = record { is = rw (of-name stemSeen, none (omega (arith, t .low))); inside = name-ends }
+
+    pub stem-dot : q .start < d → ViewAt (ofName stemSeen k s) s (seen (q .start) (d - q .start))
+    unfolding stemSeen told
+    stem-dot z =
+        let n : d - q .start ≡ lastDot (take (q .len) (drop (q .start) s)) = omega (arith, place) in
+        record { is = rw (of-name stemSeen, some (λ y. omega arith), n); inside = omega (arith, name-ends) }
+
+    pub extension-none : d ≡ q .start → (r : View) → r ≡ refusedView Absent → ViewAt (ofName extensionSeen k s) s r
+    unfolding extensionSeen told guard
+    extension-none z r e = record { is = e ∙ rw (of-name extensionSeen, none z); inside = rw e (omega arith) }
 
     module _ (z : d ≡ q .start → ⊥) where
       pub dot-before : d + 1 ≤ q .start + q .len
-      dot-before = omega (arith, t .high z)
-
-      pub dot-fits : Fits w64 (d + 1)
-      dot-fits = let b = rw g at (a .spans) in record { fits = omega (arith, b, dot-before) }
-
-      some : eqb (lastDot (take (q .len) (drop (q .start) s))) 0 ≡ false
-      some = ne-eqb (lastDot (take (q .len) (drop (q .start) s))) 0 (λ y. z (omega (arith, place)))
-
-      pub stem-dot : ViewAt (ofName stemSeen k s) s (seen (q .start) (d - q .start))
-      unfolding stemSeen told
-      stem-dot =
-          let n : d - q .start ≡ lastDot (take (q .len) (drop (q .start) s)) = omega (arith, place) in
-          record { is = rw (of-name stemSeen, some, n); inside = omega (arith, name-ends, dot-before, t .low) }
+      dot-before = omega (arith, t .before z)
 
       pub extension-dot : ViewAt (ofName extensionSeen k s) s (seen (d + 1) (q .start + q .len - (d + 1)))
       unfolding extensionSeen told guard
       extension-dot =
           let n : q .start + q .len - (d + 1) ≡ q .len - (lastDot (take (q .len) (drop (q .start) s)) + 1) = omega (arith, place) in
-          record { is = rw (of-name extensionSeen, some, n) (rw place); inside = omega (arith, name-ends, dot-before) }
+          record { is = rw (of-name extensionSeen, some z, n) (rw place); inside = omega (arith, name-ends, dot-before) }
 
 pub ruleset naming = (name-none, name-is, name-not, dot-here, dot-more, dot-out, name-absent, name-fits, name-ends, name-seen, stem-whole, extension-none, dot-before, dot-fits, stem-dot, extension-dot)

@@ -50,15 +50,12 @@ Climbed sep v s lo n (Head m) = Steps (within sep v s lo (length s)) n [] m × (
 pub record ClimbAt (sep : ℕ → Bool) (v : Bool) (s : List ℕ) (lo n : ℕ) (r : Reached) : Type 0 where
   pub is : Climbed sep v s lo n r
 
-abbrev pub isLone : Dir → Bool
-isLone Bare = false
-isLone Root = false
-isLone Implied = false
-isLone Lone = true
-
--- what remains of a head alone after n steps back
-unfoldable pub headUp : Dir → ℕ → View
-headUp d n = cond (isLone d) (cond (eqb n 1) (seen 0 0) (refusedView Absent)) (refusedView Absent)
+-- what remains of a head alone after n steps back, n not 0
+abbrev pub headUp : Dir → ℕ → View
+headUp Bare n = refusedView Absent
+headUp Root n = refusedView Absent
+headUp Implied n = refusedView Absent
+headUp Lone n = cond (eqb n 1) (seen 0 0) (refusedView Absent)
 
 abbrev pub isName : Kind → Bool
 isName Dot = false
@@ -78,4 +75,5 @@ dotIn s lo hi = lastDot (take (hi - lo) (drop lo s))
 pub record DotAt (s : List ℕ) (lo hi r : ℕ) : Type 0 where
   pub is : r ≡ lo + dotIn s lo hi
   pub low : lo ≤ r
-  pub high : (r ≡ lo → ⊥) → r < hi
+  pub high : r ≤ hi
+  pub before : (r ≡ lo → ⊥) → r < hi

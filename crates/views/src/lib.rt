@@ -18,7 +18,7 @@ ghost use Rattle.parts.specs.Body.{dots};
 ghost use Rattle.components.specs.List.{headList, listOf, isDisk};
 ghost use Rattle.components.specs.Leaves.{OpenAt};
 ghost use Rattle.views.specs.Views.{onDisk, isBare, dotBehind, dotDisk, upOf, parentOf, ancestorOf, fileNameOf, fileStemOf, extensionOf};
-ghost use Rattle.views.specs.Leaves.{ViewAt, CutAt, leftOf, ClimbAt, isLone, headUp, isName, NameAt, DotAt};
+ghost use Rattle.views.specs.Leaves.{ViewAt, CutAt, leftOf, ClimbAt, headUp, isName, NameAt, DotAt};
 
 // Where steps back through a body came to: before place e, or at its beginning with that many steps still to go.
 pub enum Reached {
@@ -56,17 +56,6 @@ fn is_bare(d: Dir) -> bool
         Dir::Root => false,
         Dir::Implied => false,
         Dir::Dot => false,
-    }
-}
-
-fn is_dot(d: Dir) -> bool
-    ensures { λ r. ⌜ r ≡ isLone d ⌝ }
-{
-    match d {
-        Dir::Bare => false,
-        Dir::Root => false,
-        Dir::Implied => false,
-        Dir::Dot => true,
     }
 }
 
@@ -136,17 +125,21 @@ fn climb(k: Seps, s: &[u8], at: usize, n: usize) -> Reached
 fn head_up(d: Dir, left: usize) -> View
     ensures { λ r. ⌜ r ≡ headUp d left ⌝ }
 {
-    if is_dot(d) {
-        if left == 1 {
-            return View {
-                reply: Reply::Done,
-                start: 0,
-                len: 0,
-            };
+    match d {
+        Dir::Bare => answers::refuse_view(Reply::Absent),
+        Dir::Root => answers::refuse_view(Reply::Absent),
+        Dir::Implied => answers::refuse_view(Reply::Absent),
+        Dir::Dot => {
+            if left == 1 {
+                return View {
+                    reply: Reply::Done,
+                    start: 0,
+                    len: 0,
+                };
+            }
+            answers::refuse_view(Reply::Absent)
         }
-        return answers::refuse_view(Reply::Absent);
     }
-    answers::refuse_view(Reply::Absent)
 }
 
 // What remains after n steps back.
@@ -263,17 +256,17 @@ pub fn file_stem(k: Seps, s: &[u8]) -> View
             let lo = q.start;
             let hi = lo + q.len;
             let d = last_dot(s, lo, hi);
-            if d == lo {
+            if lo < d {
                 return View {
                     reply: Reply::Done,
                     start: lo,
-                    len: q.len,
+                    len: d - lo,
                 };
             }
             View {
                 reply: Reply::Done,
                 start: lo,
-                len: d - lo,
+                len: q.len,
             }
         }
     }
@@ -289,10 +282,10 @@ pub fn extension(k: Seps, s: &[u8]) -> View
             let lo = q.start;
             let hi = lo + q.len;
             let d = last_dot(s, lo, hi);
+            let b = d + 1;
             if d == lo {
                 return answers::refuse_view(Reply::Absent);
             }
-            let b = d + 1;
             View {
                 reply: Reply::Done,
                 start: b,

@@ -7,9 +7,16 @@ pub head-up-spec : {M : Type 1} → statement M
 head-up-spec =
     tie.close
     (tie.spec
-    (λ c κs. search (needs, climbing))
     (λ c. search (needs, climbing))
     (λ c κs. search (needs, climbing))
     (λ c. search (needs, climbing))
     (λ c κs. search (needs, climbing))
+    (λ c. search (needs, climbing))
+    (λ c κs. search (needs, climbing))
+    (λ c. search (needs, climbing))
+    (λ c. search (needs, climbing))
+    (λ c κs. search (needs, climbing))
+    (λ c. search (needs, climbing))
+    (λ c. search (needs, climbing))
+    (λ c. search (needs, climbing))
     (λ c. search (needs, climbing)))
