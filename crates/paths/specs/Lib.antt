@@ -6,3 +6,5 @@ pub mod StepLaws
 pub mod TestLaws
 pub mod Absolute
 pub mod AbsoluteLaws
+pub mod Views
+pub mod ViewLaws

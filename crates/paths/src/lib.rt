@@ -3,6 +3,7 @@
 mod absolutes;
 mod steps;
 mod tests;
+mod view;
 
 pub use absolutes::absolute;
 use answers::Reply;
@@ -12,6 +13,11 @@ pub use steps::Stepped;
 pub use steps::Taken;
 pub use tests::has_root;
 pub use tests::is_absolute;
+pub use view::ancestor;
+pub use view::extension;
+pub use view::file_name;
+pub use view::file_stem;
+pub use view::parent;
 ghost use mathlib.Core.Path.{_≡_};
 ghost use Rattle.answers.specs.Outcome.{told};
 ghost use Rattle.paths.specs.Prefix.{refusedPrefix, prefixCall};

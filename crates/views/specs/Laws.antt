@@ -1,0 +1,503 @@
+-- Laws of the views: one a way through each function, and what they rest on.
+use Prim.Native.Nat.{ℕ, zero, suc, _+_, _-_, _*_, _^_, _<_, _≤_}
+use mir.Syntax.{w64}
+use mir.Val.{Fits}
+use native.Mathlib.Numerals.{add-one}
+use native.Mathlib.Nat.{add-zero, add-sub-cancel-left}
+use native.Mathlib.Omega.{arith}
+use mathlib.Core.Path.{_≡_, refl, sym, ap, _∙_}
+use mathlib.Core.List.{List, [], _∷_, _++_, append-nil, append-assoc}
+use mathlib.Core.Bool.{Bool, true, false, not, cond, false≢true}
+use lib.ListN.{length, getD, take, drop, length-append, length-drop}
+use lib.Seq.{take-length, take-suc, getD-drop, length-take-le}
+use lib.Dec.{eqb, ltb}
+use borrow.Author.Tests.{eq-eqb, ne-eqb, eqb-true, eqb-false, ltb-true, ltb-false}
+use Rattle.octets.specs.Class.{isSep}
+use Rattle.octets.specs.Laws.{split}
+use Rattle.octets.specs.declared.Seps.{Seps}
+use Rattle.answers.specs.declared.Reply.the-variants.{Absent}
+use Rattle.answers.specs.declared.View.{View}
+use Rattle.answers.specs.Reply.{refusedView, seen}
+use Rattle.answers.specs.Outcome.{Outcome, refuse, result, told, guard, present}
+use Rattle.prefixes.specs.declared.Prefix.{Prefix}
+use Rattle.prefixes.specs.declared.Prefix.the-variants.{Verbatim, VerbatimUnc, VerbatimDisk, DeviceNs, Unc, Disk}
+use Rattle.prefixes.specs.declared.Parsed.{Parsed}
+use Rattle.prefixes.specs.declared.Parsed.the-variants.{Nothing, Is}
+use Rattle.prefixes.specs.Prefix.{prefixIn, endOfPrefix}
+use Rattle.parts.specs.declared.Component.{Component}
+use Rattle.parts.specs.declared.Element.{Element}
+use Rattle.parts.specs.declared.Item.{Item}
+use Rattle.parts.specs.declared.Item.the-variants.{Missing, Here}
+use Rattle.parts.specs.declared.Kind.{Kind}
+use Rattle.parts.specs.declared.Kind.the-variants.{Dot, DotDot, Name}
+use Rattle.parts.specs.declared.Part.{Part}
+use Rattle.parts.specs.declared.Piece.{Piece}
+use Rattle.parts.specs.declared.Piece.the-variants.{Nothing as None, Found}
+use Rattle.parts.specs.Body.{componentOf, dots}
+use Rattle.parts.specs.Elements.{nthOf, nthBackOf, endOr}
+use Rattle.parts.specs.Steps.{lift, raised, within, LastAt}
+use Rattle.parts.specs.Laws.{last-none, last-found, back-last, back-on, back-past, back-inside}
+use Rattle.components.specs.declared.Dir.{Dir}
+use Rattle.components.specs.declared.Dir.the-variants.{Bare, Root, Implied, Dot as Lone}
+use Rattle.components.specs.declared.Start.{Start}
+use Rattle.components.specs.List.{sepAt, dotAt, prefixDir, behindPrefix, dirOf, dirLen, startOf, prefixPart, dirPart, headList, bodyList, wholeOf, listOf, isDisk}
+use Rattle.components.specs.Leaves.{OpenAt}
+use Rattle.components.specs.Laws.{dot-past, whole-list}
+use Rattle.views.specs.declared.Reached.{Reached}
+use Rattle.views.specs.declared.Reached.the-variants.{Body, Head}
+use Rattle.views.specs.Views.{onDisk, isBare, dotBehind, dotDisk, cutOf, leavesKind, leaves, climbs, upOf, parentOf, ancestorOf, isNormal, named, lastName, hasDot, lastDot, ofName, wholeSeen, stemSeen, extensionSeen}
+use Rattle.views.specs.Leaves.{ViewAt, CutAt, leftOf, Steps, ClimbAt, headUp, isName, NameAt, dotIn, DotAt}
+
+-- ---- `dot_disk`
+module _ (k : Seps) (h : Start) (s : List ℕ) (a : Bool) (e : a ≡ onDisk (h .prefix)) where
+  pub disk-none : a ≡ false → false ≡ dotBehind k h s
+  unfolding dotBehind
+  disk-none n = rw (← e, n)
+
+  module _ (y : a ≡ true) (b : Bool) (f : b ≡ isBare (h .dir)) where
+    pub disk-rooted : b ≡ false → false ≡ dotBehind k h s
+    unfolding dotBehind
+    disk-rooted n = rw (← e, y, ← f, n)
+
+    pub disk-dot : (r : Bool) → b ≡ true → r ≡ dotAt k s (h .end) → r ≡ dotBehind k h s
+    unfolding dotBehind
+    disk-dot r z g = g ∙ rw (← e, y, ← f, z)
+
+-- ---- steps back from a list
+
+same-test : (a b : ℕ) → eqb (a + 1) (b + 1) ≡ eqb a b
+same-test a b =
+    split (eqb a b)
+    (λ e. rw e (eq-eqb (a + 1) (b + 1) (omega (arith, eqb-true a b e))))
+    (λ e. rw e (ne-eqb (a + 1) (b + 1) (λ h. eqb-false a b e (omega arith))))
+
+module _ (l : List Element) (p : Element) where
+  cut-on : (dot : Bool) (n : ℕ) → cutOf dot (l ++ (p ∷ [])) (n + 1) ≡ cutOf dot l n
+  unfolding cutOf
+  cut-on dot n =
+      let m : length (l ++ (p ∷ [])) ≡ length l + 1 = length-append l (p ∷ []) in
+      rw (back-on (l ++ (p ∷ [])) l p refl n, m, same-test (length l) (n + 1))
+
+  climbs-on : leavesKind (p .component) ≡ true → (n : ℕ) → climbs (l ++ (p ∷ [])) (suc n) ≡ climbs l n
+  unfolding climbs
+  climbs-on e zero = rw (back-last (l ++ (p ∷ [])) l p refl, e)
+  climbs-on e (suc n) =
+      let g : nthBackOf (l ++ (p ∷ [])) (suc n) ≡ nthBackOf l n = rw add-one at (back-on (l ++ (p ∷ [])) l p refl n) in
+      rw (climbs-on e n, g)
+
+  -- one that leaves taken off
+  pub up-on : leavesKind (p .component) ≡ true → (dot : Bool) (n : ℕ) → upOf dot (l ++ (p ∷ [])) (n + 1) ≡ upOf dot l n
+  unfolding upOf
+  up-on e dot n = rw (cut-on dot n, add-one n, climbs-on e n)
+
+climbs-first : (l : List Element) (n : ℕ) → leaves (nthBackOf l 0) ≡ false → climbs l (suc n) ≡ false
+unfolding climbs
+climbs-first l zero e = rw e
+climbs-first l (suc n) e = rw (climbs-first l n e)
+
+leaves-in : (l : List Element) (n : ℕ) → leaves (nthBackOf l n) ≡ true → n < length l
+leaves-in l n e =
+    split (ltb n (length l))
+    (λ t. ltb-true n (length l) t)
+    (λ t. absurd (false≢true (rw (back-past l n (ltb-false n (length l) t)) at e)))
+
+-- a list that is climbed n times has as many elements
+pub climbs-few : (l : List Element) (n : ℕ) → climbs l n ≡ true → n ≤ length l
+unfolding climbs
+climbs-few l zero e = omega arith
+climbs-few l (suc n) e =
+    split (climbs l n)
+    (λ t. leaves-in l n (rw t at e))
+    (λ t. absurd (false≢true (rw t at e)))
+
+climbs-past : (l : List Element) (n : ℕ) → length l < n → climbs l n ≡ false
+climbs-past l n h = split (climbs l n) (λ t. absurd (omega (arith, climbs-few l n t))) (λ t. t)
+
+-- ---- `climb`
+
+kind-leaves : (q : Kind) → leavesKind (componentOf q) ≡ true
+kind-leaves Dot = refl
+kind-leaves DotDot = refl
+kind-leaves Name = refl
+
+pub steps-start : (l : List Element) (n : ℕ) → Steps l n l n
+unfolding Steps
+steps-start l n = λ dot g. refl
+
+module _ (sep : ℕ → Bool) (v : Bool) (s : List ℕ) (lo e n m : ℕ) (h : Steps (within sep v s lo (length s)) n (within sep v s lo e) m) where
+  pub climb-body : m ≤ 0 → e ≤ length s → ClimbAt sep v s lo n (Body e)
+  climb-body z c = let y : m ≡ 0 = omega arith in record { is = (rw y at h, c) }
+
+  module _ (p : Piece) (f : LastAt sep v s lo e p) (w : 0 < m) where
+    pub climb-head : p ≡ None → ClimbAt sep v s lo n (Head m)
+    climb-head g = record { is = (rw (last-none f g) at h, w) }
+
+    pub climb-on : (q : Part) → p ≡ Found q → Steps (within sep v s lo (length s)) n (within sep v s lo (q .start)) (m - 1)
+    unfolding Steps
+    climb-on q g = λ dot a.
+        let b : List Element = within sep v s lo (q .start) in
+        let y : m ≡ m - 1 + 1 = omega arith in
+        h dot a
+        ∙ ap (λ (x : List Element). upOf dot (a ++ x) m) (last-found f g .is)
+        ∙ ap (λ (x : List Element). upOf dot x m) (sym (append-assoc a b (lift q ∷ [])))
+        ∙ ap (upOf dot ((a ++ b) ++ (lift q ∷ []))) y
+        ∙ up-on (a ++ b) (lift q) (kind-leaves (q .kind)) dot (m - 1)
+
+pub climb-in : (sep : ℕ → Bool) (v : Bool) (s : List ℕ) (lo n : ℕ) (r : Reached) (e : ℕ) → ClimbAt sep v s lo n r → r ≡ Body e → e ≤ length s
+climb-in sep v s lo n r e c g = (rw g at (c .is)) .1
+
+-- ---- `head_up`
+pub up-fixed : (d x : Dir) (n : ℕ) (r : View) → d ≡ x → refusedView Absent ≡ headUp x n → r ≡ refusedView Absent → r ≡ headUp d n
+up-fixed d x n r y f e = e ∙ f ∙ rw y
+
+module _ (d : Dir) (n : ℕ) (y : d ≡ Lone) where
+  pub up-lone : n ≡ 1 → seen 0 0 ≡ headUp d n
+  up-lone z = rw (y, z)
+
+  pub up-long : (n ≡ 1 → ⊥) → (r : View) → r ≡ refusedView Absent → r ≡ headUp d n
+  up-long z r e = e ∙ rw (y, ne-eqb n 1 z)
+
+head-short : (d : Dir) (n : ℕ) (s : List ℕ) → headUp d n .start + headUp d n .len ≤ length s
+head-short Bare n s = omega arith
+head-short Root n s = omega arith
+head-short Implied n s = omega arith
+head-short Lone n s = split (eqb n 1) (λ f. rw f (omega arith)) (λ f. rw f (omega arith))
+
+-- a lone dot stands behind no prefix
+abbrev isLone : Dir → Bool
+isLone Bare = false
+isLone Root = false
+isLone Implied = false
+isLone Lone = true
+
+prefix-dir : (p : Prefix) → isLone (prefixDir p) ≡ false
+prefix-dir (Verbatim n) = refl
+prefix-dir (VerbatimUnc n) = refl
+prefix-dir (VerbatimDisk d) = refl
+prefix-dir (DeviceNs n) = refl
+prefix-dir (Unc n) = refl
+prefix-dir (Disk d) = refl
+
+behind-lone : (k : Seps) (s : List ℕ) (p : Parsed) → isLone (behindPrefix k p s) ≡ true → p ≡ Nothing
+behind-lone k s Nothing e = refl
+behind-lone k s (Is p) e = absurd (false≢true (sym (prefix-dir p) ∙ e))
+
+dir-lone : (k : Seps) (s : List ℕ) (p : Parsed) (i : ℕ) → isLone (dirOf k p s i) ≡ true → p ≡ Nothing
+unfolding dirOf
+dir-lone k s p i h = split (sepAt k s i) (λ e. absurd (false≢true (rw e at h))) (λ e. behind-lone k s p (rw e at h))
+
+-- where the last element of a list is none that leaves
+stays : (dot : Bool) (l : List Element) (n : ℕ) → leaves (nthBackOf l 0) ≡ false → told refusedView (upOf dot l (suc n)) ≡ refusedView Absent
+unfolding upOf told guard
+stays dot l n e = rw (climbs-first l n e)
+
+lone-up : (dot : Bool) (e n : ℕ) → told refusedView (upOf dot (dirPart Lone e) (suc n)) ≡ headUp Lone (suc n)
+unfolding upOf told guard climbs cutOf nthBackOf nthOf
+lone-up dot e zero = split dot (λ f. rw f) (λ f. rw f)
+lone-up dot e (suc n) = rw (climbs-past (dirPart Lone e) (suc (suc n)) (omega arith), ne-eqb (suc (suc n)) 1 (λ z. omega arith))
+
+head-up-of : (dot : Bool) (p : Parsed) (d : Dir) (e n : ℕ) → (isLone d ≡ true → p ≡ Nothing) → told refusedView (upOf dot (prefixPart p e ++ dirPart d e) (suc n)) ≡ headUp d (suc n)
+unfolding nthBackOf nthOf
+head-up-of dot Nothing Bare e n f = stays dot [] n refl
+head-up-of dot (Is p) Bare e n f = stays dot (prefixPart (Is p) e) n refl
+head-up-of dot Nothing Root e n f = stays dot (dirPart Root e) n refl
+head-up-of dot (Is p) Root e n f = stays dot (prefixPart (Is p) e ++ dirPart Root e) n refl
+head-up-of dot Nothing Implied e n f = stays dot (dirPart Implied e) n refl
+head-up-of dot (Is p) Implied e n f = stays dot (prefixPart (Is p) e ++ dirPart Implied e) n refl
+head-up-of dot p Lone e n f = rw (f refl) (lone-up dot e n)
+
+head-alone : (k : Seps) (s : List ℕ) (h : Start) → OpenAt k s h → (dot : Bool) (m : ℕ) → 0 < m → told refusedView (upOf dot (headList h) m) ≡ headUp (h .dir) m
+unfolding headList startOf
+head-alone k s h o dot zero w = absurd (omega arith)
+head-alone k s h o dot (suc n) w = head-up-of dot (h .prefix) (h .dir) (h .end) n (rw (o .is) (dir-lone k s (prefixIn k s) (endOfPrefix (prefixIn k s))))
+
+-- ---- `head_end`
+
+-- the end of the head's last element
+head-last : (p : Parsed) (d : Dir) → endOr (nthBackOf (prefixPart p (endOfPrefix p) ++ dirPart d (endOfPrefix p)) 0) ≡ endOfPrefix p + dirLen d
+unfolding nthBackOf nthOf
+head-last Nothing Bare = refl
+head-last Nothing Root = refl
+head-last Nothing Implied = refl
+head-last Nothing Lone = refl
+head-last (Is p) Bare = omega arith
+head-last (Is p) Root = refl
+head-last (Is p) Implied = refl
+head-last (Is p) Lone = refl
+
+-- a dot behind a drive: the prefix stands alone in the head
+drive-alone : (k : Seps) (s : List ℕ) (p : Parsed) (d : Dir) (e : ℕ) → cond (onDisk p) (cond (isBare d) (dotAt k s e) false) false ≡ true → (length (prefixPart p e ++ dirPart d e) ≡ 1) × (dirLen d ≡ 0) × (dotAt k s e ≡ true)
+drive-alone k s Nothing d e h = absurd (false≢true h)
+drive-alone k s (Is p) Bare e h = split (isDisk p) (λ t. (refl, refl, rw t at h)) (λ t. absurd (false≢true (rw t at h)))
+drive-alone k s (Is p) Root e h = split (isDisk p) (λ t. absurd (false≢true (rw t at h))) (λ t. absurd (false≢true (rw t at h)))
+drive-alone k s (Is p) Implied e h = split (isDisk p) (λ t. absurd (false≢true (rw t at h))) (λ t. absurd (false≢true (rw t at h)))
+drive-alone k s (Is p) Lone e h = split (isDisk p) (λ t. absurd (false≢true (rw t at h))) (λ t. absurd (false≢true (rw t at h)))
+
+dot-inside : (k : Seps) (s : List ℕ) (i : ℕ) → dotAt k s i ≡ true → i < length s
+dot-inside k s i h = split (ltb i (length s)) (λ e. ltb-true i (length s) e) (λ e. absurd (false≢true (dot-past k s i (ltb-false i (length s) e) ∙ h)))
+
+module _ (k : Seps) (s : List ℕ) (h : Start) (o : OpenAt k s h) where
+  ends-at : endOr (nthBackOf (headList h) 0) ≡ h .at
+  unfolding headList startOf
+  ends-at = rw (o .is) (head-last (prefixIn k s) (dirOf k (prefixIn k s) s (endOfPrefix (prefixIn k s))))
+
+  alone : dotBehind k h s ≡ true → length (headList h) ≡ 1
+  unfolding headList dotBehind
+  alone y = drive-alone k s (h .prefix) (h .dir) (h .end) y .0
+
+  dot-in : dotBehind k h s ≡ true → h .at + 1 ≤ length s
+  unfolding dotBehind startOf
+  dot-in y =
+      let a = drive-alone k s (h .prefix) (h .dir) (h .end) y in
+      let b : h .at ≡ h .end + dirLen (h .dir) = rw (o .is) in
+      omega (arith, dot-inside k s (h .end) (a .2))
+
+  module _ (b : Bool) (e : b ≡ dotBehind k h s) where
+    pub head-fits : b ≡ true → length s * 1 < 2 ^ 63 → Fits w64 (h .at + 1)
+    head-fits y w = record { fits = omega (arith, dot-in (sym e ∙ y)) }
+
+    pub head-dot : b ≡ true → CutAt (dotBehind k h s) (headList h) s (h .at + 1)
+    unfolding cutOf
+    head-dot y = record { is = rw (ends-at, alone (sym e ∙ y), ← e, y); inside = dot-in (sym e ∙ y) }
+
+    pub head-plain : b ≡ false → CutAt (dotBehind k h s) (headList h) s (h .at)
+    unfolding cutOf
+    head-plain n = record { is = rw (ends-at, ← e, n) (omega arith); inside = o .high }
+
+  -- `end_before`
+  module _ (e : ℕ) (p : Piece) (f : LastAt (isSep (h .seps)) (dots (h .seps)) s (h .at) e p) where
+    pub before-none : p ≡ None → (r : ℕ) → CutAt (dotBehind k h s) (headList h) s r → CutAt (dotBehind k h s) (leftOf h s e) s r
+    unfolding leftOf
+    before-none g r c = rw (last-none f g, append-nil) c
+
+    module _ (q : Part) (g : p ≡ Found q) where
+      pub before-fits : Fits w64 (q .start + q .len)
+      before-fits = let t = last-found f g in record { fits = omega arith }
+
+      before : List Element
+      before = headList h ++ within (isSep (h .seps)) (dots (h .seps)) s (h .at) (q .start)
+
+      parted : leftOf h s e ≡ before ++ (lift q ∷ [])
+      unfolding leftOf before
+      parted = rw (last-found f g .is, append-assoc)
+
+      later : dotBehind k h s ≡ true → (length (leftOf h s e) ≡ 0 + 1 → ⊥)
+      unfolding before
+      later y =
+          let n : length (leftOf h s e) ≡ length before + 1 = ap length parted ∙ length-append before (lift q ∷ []) in
+          let m = length-append (headList h) (within (isSep (h .seps)) (dots (h .seps)) s (h .at) (q .start)) in
+          λ z. omega (arith, alone y)
+
+      pub before-part : CutAt (dotBehind k h s) (leftOf h s e) s (q .start + q .len)
+      unfolding cutOf
+      before-part =
+          let t = last-found f g in
+          record {
+            is =
+                rw (back-last (leftOf h s e) before (lift q) parted)
+                (split (dotBehind k h s)
+                (λ y. rw (y, ne-eqb (length (leftOf h s e)) (0 + 1) (later y)) (omega arith))
+                (λ y. rw y (omega arith)));
+            inside = omega arith;
+          }
+
+  -- ---- `up`
+  whole-left : listOf k s ≡ leftOf h s (length s)
+  unfolding wholeOf bodyList leftOf within
+  whole-left = sym (whole-list k s h o) ∙ rw (take-length s)
+
+  dot-same : dotDisk k s ≡ dotBehind k h s
+  unfolding dotDisk
+  dot-same = rw (o .is)
+
+  up-from : (n e m : ℕ) → Steps (within (isSep (h .seps)) (dots (h .seps)) s (h .at) (length s)) n (within (isSep (h .seps)) (dots (h .seps)) s (h .at) e) m → upOf (dotDisk k s) (listOf k s) n ≡ upOf (dotBehind k h s) (leftOf h s e) m
+  unfolding Steps leftOf
+  up-from n e m t = rw (dot-same, whole-left) (t (dotBehind k h s) (headList h))
+
+  up-head-from : (n m : ℕ) → Steps (within (isSep (h .seps)) (dots (h .seps)) s (h .at) (length s)) n [] m → upOf (dotDisk k s) (listOf k s) n ≡ upOf (dotBehind k h s) (headList h) m
+  unfolding Steps leftOf
+  up-head-from n m t = rw (dot-same, whole-left) (t (dotBehind k h s) (headList h) ∙ rw append-nil)
+
+  module _ (n : ℕ) (c : Reached) (a : ClimbAt (isSep (h .seps)) (dots (h .seps)) s (h .at) n c) where
+    pub up-body : (e r : ℕ) → c ≡ Body e → CutAt (dotBehind k h s) (leftOf h s e) s r → ViewAt (upOf (dotDisk k s) (listOf k s) n) s (seen 0 r)
+    unfolding upOf told guard climbs
+    up-body e r g t =
+        let m = rw g at (a .is) in
+        record { is = rw (t .is) (sym (ap (told refusedView) (up-from n e 0 (m .0)))); inside = omega (arith, t .inside) }
+
+    pub up-head : (m : ℕ) (r : View) → c ≡ Head m → r ≡ headUp (h .dir) m → ViewAt (upOf (dotDisk k s) (listOf k s) n) s r
+    up-head m r g e =
+        let t = rw g at (a .is) in
+        record {
+          is = e ∙ sym (ap (told refusedView) (up-head-from n m (t .0)) ∙ head-alone k s h o (dotBehind k h s) m (t .1));
+          inside = rw e (head-short (h .dir) m s);
+        }
+
+-- `parent`, `ancestor`
+module _ (k : Seps) (s : List ℕ) (r : View) where
+  pub parent-is : ViewAt (upOf (dotDisk k s) (listOf k s) 1) s r → ViewAt (parentOf k s) s r
+  unfolding parentOf upOf climbs
+  parent-is a = a
+
+  module _ (n : ℕ) where
+    pub ancestor-up : (n ≡ 0 → ⊥) → ViewAt (upOf (dotDisk k s) (listOf k s) n) s r → ViewAt (ancestorOf n k s) s r
+    unfolding ancestorOf
+    ancestor-up h a = rw (ne-eqb n 0 h) a
+
+pub ancestor-whole : (k : Seps) (s : List ℕ) (n : ℕ) → n ≡ 0 → ViewAt (ancestorOf n k s) s (seen 0 (length s))
+unfolding ancestorOf told
+ancestor-whole k s n h = record { is = rw h; inside = omega arith }
+
+pub ruleset climbing = (back-inside, disk-none, disk-rooted, disk-dot, steps-start, climb-body, climb-head, climb-on, climb-in, head-fits, head-dot, head-plain, before-none, before-fits, before-part, up-fixed, up-lone, up-long, up-body, up-head, parent-is, ancestor-up, ancestor-whole)
+
+-- ---- `name_part`
+
+-- no element of a head is a name
+head-unnamed : (p : Parsed) (d : Dir) (e : ℕ) → named (nthBackOf (prefixPart p e ++ dirPart d e) 0) ≡ Missing
+unfolding nthBackOf nthOf
+head-unnamed Nothing Bare e = refl
+head-unnamed Nothing Root e = refl
+head-unnamed Nothing Implied e = refl
+head-unnamed Nothing Lone e = refl
+head-unnamed (Is p) Bare e = refl
+head-unnamed (Is p) Root e = refl
+head-unnamed (Is p) Implied e = refl
+head-unnamed (Is p) Lone e = refl
+
+kind-named : (q : Kind) → isNormal (componentOf q) ≡ isName q
+kind-named Dot = refl
+kind-named DotDot = refl
+kind-named Name = refl
+
+module _ (k : Seps) (s : List ℕ) (h : Start) (o : OpenAt k s h) (p : Piece) (f : LastAt (isSep (h .seps)) (dots (h .seps)) s (h .at) (length s) p) where
+  pub name-none : p ≡ None → NameAt k s None
+  unfolding lastName leftOf headList
+  name-none g = record { is = rw (whole-left k s h o, last-none f g, append-nil) (sym (head-unnamed (h .prefix) (h .dir) (h .end))); spans = tt }
+
+  module _ (q : Part) (g : p ≡ Found q) (b : Bool) (n : b ≡ isName (q .kind)) where
+    the-last : nthBackOf (listOf k s) 0 ≡ Here (lift q)
+    the-last = rw (whole-left k s h o) (back-last (leftOf h s (length s)) (before k s h o (length s) p f q g) (lift q) (parted k s h o (length s) p f q g))
+
+    pub name-is : b ≡ true → NameAt k s (Found q)
+    unfolding lastName
+    name-is y =
+        let t = last-found f g in
+        record { is = rw (the-last, kind-named (q .kind), ← n, y); spans = (omega arith, omega arith, omega arith, t .room) }
+
+    pub name-not : b ≡ false → NameAt k s None
+    unfolding lastName
+    name-not y = record { is = rw (the-last, kind-named (q .kind), ← n, y); spans = tt }
+
+-- ---- `last_dot`
+
+has-snoc : (w : List ℕ) → hasDot (w ++ (46 ∷ [])) ≡ true
+unfolding hasDot
+has-snoc [] = refl
+has-snoc (x ∷ w) = rw (has-snoc w) (split (eqb x 46) (λ e. rw e) (λ e. rw e))
+
+dot-snoc : (w : List ℕ) → lastDot (w ++ (46 ∷ [])) ≡ length w
+unfolding lastDot hasDot
+dot-snoc [] = refl
+dot-snoc (x ∷ w) = rw (has-snoc w, dot-snoc w)
+
+module _ (y : ℕ) (n : y ≡ 46 → ⊥) where
+  has-plain : (w : List ℕ) → hasDot (w ++ (y ∷ [])) ≡ hasDot w
+  unfolding hasDot
+  has-plain [] = rw (ne-eqb y 46 n)
+  has-plain (x ∷ w) = rw (has-plain w)
+
+  dot-plain : (w : List ℕ) → lastDot (w ++ (y ∷ [])) ≡ lastDot w
+  unfolding lastDot hasDot
+  dot-plain [] = refl
+  dot-plain (x ∷ w) = rw (has-plain w, dot-plain w)
+
+-- the bytes from lo to i, the last one apart
+part-snoc : (s : List ℕ) (lo i : ℕ) → lo < i → i ≤ length s → take (i - lo) (drop lo s) ≡ take (i - 1 - lo) (drop lo s) ++ (getD s (i - 1) 0 ∷ [])
+part-snoc s lo i l h =
+    let a : i - lo ≡ suc (i - 1 - lo) = omega arith in
+    let b : lo + (i - 1 - lo) ≡ i - 1 = omega arith in
+    rw (a, take-suc (drop lo s) (i - 1 - lo) 0 (omega (arith, length-drop lo s)), getD-drop lo s (i - 1 - lo) 0, b)
+
+-- e says that no dot stands between i and hi
+module _ (s : List ℕ) (lo hi i : ℕ) (e : dotIn s lo hi ≡ dotIn s lo i) where
+  module _ (l : lo < i) (m : i ≤ hi) (c : hi ≤ length s) where
+    pub dot-here : getD s (i - 1) 0 ≡ 46 → DotAt s lo hi (i - 1)
+    unfolding dotIn
+    dot-here y =
+        let n : length (take (i - 1 - lo) (drop lo s)) ≡ i - 1 - lo = length-take-le (i - 1 - lo) (drop lo s) (omega (arith, length-drop lo s)) in
+        record { is = rw (e, part-snoc s lo i l (omega arith), y, dot-snoc (take (i - 1 - lo) (drop lo s)), n) (omega arith); low = omega arith; high = omega arith; before = λ z. omega arith }
+
+    pub dot-more : (getD s (i - 1) 0 ≡ 46 → ⊥) → dotIn s lo hi ≡ dotIn s lo (i - 1)
+    unfolding dotIn
+    dot-more n = e ∙ rw (part-snoc s lo i l (omega arith), dot-plain (getD s (i - 1) 0) n (take (i - 1 - lo) (drop lo s)))
+
+  pub dot-out : i ≤ lo → lo ≤ hi → DotAt s lo hi lo
+  unfolding dotIn lastDot
+  dot-out h l =
+      let z : i - lo ≡ 0 = omega arith in
+      record { is = rw (e, z) (omega arith); low = omega arith; high = l; before = λ n. absurd (n refl) }
+
+-- ---- the three views of a name
+
+pub name-absent : (f : List ℕ → Element → Outcome View) (k : Seps) (s : List ℕ) (p : Piece) (r : View) → NameAt k s p → p ≡ None → r ≡ refusedView Absent → ViewAt (ofName f k s) s r
+unfolding ofName told
+name-absent f k s p r a g e = record { is = e ∙ rw (← a .is, g); inside = rw e (omega arith) }
+
+module _ (k : Seps) (s : List ℕ) (p : Piece) (a : NameAt k s p) (q : Part) (g : p ≡ Found q) where
+  the-name : lastName k s ≡ Here (lift q)
+  the-name = sym (a .is) ∙ rw g
+
+  of-name : (f : List ℕ → Element → Outcome View) → ofName f k s ≡ f s (lift q)
+  unfolding ofName
+  of-name f = rw the-name
+
+  pub name-fits : Fits w64 (q .start + q .len)
+  name-fits = let t = rw g at (a .spans) in record { fits = omega (arith, t) }
+
+  pub name-ends : q .start + q .len ≤ length s
+  name-ends = (rw g at (a .spans)) .1
+
+  pub name-seen : ViewAt (ofName wholeSeen k s) s (seen (q .start) (q .len))
+  unfolding wholeSeen told
+  name-seen = record { is = rw (of-name wholeSeen); inside = name-ends }
+
+  module _ (d : ℕ) (t : DotAt s (q .start) (q .start + q .len) d) where
+    -- the dot's place in the name
+    place : d ≡ q .start + lastDot (take (q .len) (drop (q .start) s))
+    unfolding dotIn
+    place = rw (← add-sub-cancel-left (q .start) (q .len)) (t .is)
+
+    pub dot-fits : Fits w64 (d + 1)
+    dot-fits = let b = rw g at (a .spans) in record { fits = omega (arith, b) }
+
+    none : d ≡ q .start → lastDot (take (q .len) (drop (q .start) s)) ≡ 0
+    none z = omega (arith, place)
+
+    some : (d ≡ q .start → ⊥) → eqb (lastDot (take (q .len) (drop (q .start) s))) 0 ≡ false
+    some z = ne-eqb (lastDot (take (q .len) (drop (q .start) s))) 0 (λ y. z (omega (arith, place)))
+
+    pub stem-whole : d ≤ q .start → ViewAt (ofName stemSeen k s) s (seen (q .start) (q .len))
+    unfolding stemSeen told
+    stem-whole z = record { is = rw (of-name stemSeen, none (omega (arith, t .low))); inside = name-ends }
+
+    pub stem-dot : q .start < d → ViewAt (ofName stemSeen k s) s (seen (q .start) (d - q .start))
+    unfolding stemSeen told
+    stem-dot z =
+        let n : d - q .start ≡ lastDot (take (q .len) (drop (q .start) s)) = omega (arith, place) in
+        record { is = rw (of-name stemSeen, some (λ y. omega arith), n); inside = omega (arith, name-ends) }
+
+    pub extension-none : d ≡ q .start → (r : View) → r ≡ refusedView Absent → ViewAt (ofName extensionSeen k s) s r
+    unfolding extensionSeen told guard
+    extension-none z r e = record { is = e ∙ rw (of-name extensionSeen, none z); inside = rw e (omega arith) }
+
+    module _ (z : d ≡ q .start → ⊥) where
+      pub dot-before : d + 1 ≤ q .start + q .len
+      dot-before = omega (arith, t .before z)
+
+      pub extension-dot : ViewAt (ofName extensionSeen k s) s (seen (d + 1) (q .start + q .len - (d + 1)))
+      unfolding extensionSeen told guard
+      extension-dot =
+          let n : q .start + q .len - (d + 1) ≡ q .len - (lastDot (take (q .len) (drop (q .start) s)) + 1) = omega (arith, place) in
+          record { is = rw (of-name extensionSeen, some z, n) (rw place); inside = omega (arith, name-ends, dot-before) }
+
+pub ruleset naming = (name-none, name-is, name-not, dot-here, dot-more, dot-out, name-absent, name-fits, name-ends, name-seen, stem-whole, extension-none, dot-before, dot-fits, stem-dot, extension-dot)

@@ -1,0 +1,79 @@
+-- What the leaves promise to their callers beside the equation, and what their loops keep. Nothing here has to be believed.
+use Prim.Native.Nat.{ℕ, _+_, _-_, _^_, _<_, _≤_}
+use mathlib.Core.Path.{_≡_}
+use mathlib.Core.List.{List, [], _++_}
+use mathlib.Core.Bool.{Bool, true, false, cond}
+use lib.ListN.{length, take, drop}
+use lib.Dec.{eqb}
+use Rattle.octets.specs.Class.{isSep}
+use Rattle.octets.specs.declared.Seps.{Seps}
+use Rattle.answers.specs.declared.Reply.the-variants.{Absent}
+use Rattle.answers.specs.declared.View.{View}
+use Rattle.answers.specs.Reply.{refusedView, seen}
+use Rattle.answers.specs.Outcome.{Outcome, told}
+use Rattle.parts.specs.declared.Element.{Element}
+use Rattle.parts.specs.declared.Kind.{Kind}
+use Rattle.parts.specs.declared.Kind.the-variants.{Dot, DotDot, Name}
+use Rattle.parts.specs.declared.Piece.{Piece}
+use Rattle.parts.specs.Body.{dots}
+use Rattle.parts.specs.Steps.{raised, within, SpansBack}
+use Rattle.components.specs.declared.Dir.{Dir}
+use Rattle.components.specs.declared.Dir.the-variants.{Bare, Root, Implied, Dot as Lone}
+use Rattle.components.specs.declared.Start.{Start}
+use Rattle.components.specs.List.{headList}
+use Rattle.views.specs.declared.Reached.{Reached}
+use Rattle.views.specs.declared.Reached.the-variants.{Body, Head}
+use Rattle.views.specs.Views.{cutOf, upOf, lastName, lastDot}
+
+-- r tells the outcome o, and lies in the path s
+pub record ViewAt (o : Outcome View) (s : List ℕ) (r : View) : Type 0 where
+  pub is : r ≡ told refusedView o
+  pub inside : r .start + r .len ≤ length s
+
+-- r is the right end of l, and lies in the path s
+pub record CutAt (dot : Bool) (l : List Element) (s : List ℕ) (r : ℕ) : Type 0 where
+  pub is : r ≡ cutOf dot l 0
+  pub inside : r ≤ length s
+
+-- the list of a start, of the body the bytes up to e
+unfoldable pub leftOf : Start → List ℕ → ℕ → List Element
+leftOf h s e = headList h ++ within (isSep (h .seps)) (dots (h .seps)) s (h .at) e
+
+-- behind any head, n steps back from l are m steps back from r
+unfoldable pub Steps : List Element → ℕ → List Element → ℕ → Type 0
+Steps l n r m = (dot : Bool) (g : List Element) → upOf dot (g ++ l) n ≡ upOf dot (g ++ r) m
+
+abbrev pub Climbed : (ℕ → Bool) → Bool → List ℕ → ℕ → ℕ → Reached → Type 0
+Climbed sep v s lo n (Body e) = Steps (within sep v s lo (length s)) n (within sep v s lo e) 0 × (e ≤ length s)
+Climbed sep v s lo n (Head m) = Steps (within sep v s lo (length s)) n [] m × (0 < m)
+
+pub record ClimbAt (sep : ℕ → Bool) (v : Bool) (s : List ℕ) (lo n : ℕ) (r : Reached) : Type 0 where
+  pub is : Climbed sep v s lo n r
+
+-- what remains of a head alone after n steps back, n not 0
+abbrev pub headUp : Dir → ℕ → View
+headUp Bare n = refusedView Absent
+headUp Root n = refusedView Absent
+headUp Implied n = refusedView Absent
+headUp Lone n = cond (eqb n 1) (seen 0 0) (refusedView Absent)
+
+abbrev pub isName : Kind → Bool
+isName Dot = false
+isName DotDot = false
+isName Name = true
+
+-- r is the file name, and lies in the path
+pub record NameAt (k : Seps) (s : List ℕ) (r : Piece) : Type 0 where
+  pub is : raised r ≡ lastName k s
+  pub spans : SpansBack s 0 (length s) r
+
+-- the place of the last dot of the bytes lo to hi, counted from lo
+unfoldable pub dotIn : List ℕ → ℕ → ℕ → ℕ
+dotIn s lo hi = lastDot (take (hi - lo) (drop lo s))
+
+-- r is that place in the path: lo, or one between lo and hi
+pub record DotAt (s : List ℕ) (lo hi r : ℕ) : Type 0 where
+  pub is : r ≡ lo + dotIn s lo hi
+  pub low : lo ≤ r
+  pub high : r ≤ hi
+  pub before : (r ≡ lo → ⊥) → r < hi

@@ -1,0 +1,296 @@
+// Views over a path's list: parent, ancestors, file name, stem, extension. All work from the path's end and read only
+// what they need: the last part, and for an ancestor those that it lacks and one more.
+use answers::Reply;
+use answers::View;
+use components::Dir;
+use components::Start;
+use octets::Seps;
+use parts::Kind;
+use parts::Part;
+use parts::Piece;
+use prefixes::Parsed;
+use prefixes::Prefix;
+ghost use mathlib.Core.Path.{_≡_};
+ghost use Prim.Native.Nat.{ℕ, _≤_};
+ghost use lib.ListN.{length};
+ghost use Rattle.octets.specs.Class.{isSep};
+ghost use Rattle.parts.specs.Body.{dots};
+ghost use Rattle.components.specs.List.{headList, listOf, isDisk};
+ghost use Rattle.components.specs.Leaves.{OpenAt};
+ghost use Rattle.views.specs.Views.{onDisk, isBare, dotBehind, dotDisk, upOf, parentOf, ancestorOf, fileNameOf, fileStemOf, extensionOf};
+ghost use Rattle.views.specs.Leaves.{ViewAt, CutAt, leftOf, ClimbAt, headUp, isName, NameAt, DotAt};
+
+// Where steps back through a body came to: before place e, or at its beginning with that many steps still to go.
+pub enum Reached {
+    Body(usize),
+    Head(usize),
+}
+
+fn is_disk(p: Prefix) -> bool
+    ensures { λ r. ⌜ r ≡ isDisk p ⌝ }
+{
+    match p {
+        Prefix::Verbatim(_) => false,
+        Prefix::VerbatimUnc(_) => false,
+        Prefix::VerbatimDisk(_) => false,
+        Prefix::DeviceNs(_) => false,
+        Prefix::Unc(_) => false,
+        Prefix::Disk(_) => true,
+    }
+}
+
+fn on_disk(p: Parsed) -> bool
+    ensures { λ r. ⌜ r ≡ onDisk p ⌝ }
+{
+    match p {
+        Parsed::Nothing => false,
+        Parsed::Is(q) => is_disk(q),
+    }
+}
+
+fn is_bare(d: Dir) -> bool
+    ensures { λ r. ⌜ r ≡ isBare d ⌝ }
+{
+    match d {
+        Dir::Bare => true,
+        Dir::Root => false,
+        Dir::Implied => false,
+        Dir::Dot => false,
+    }
+}
+
+// Whether a dot that is no component stands behind a drive, as in `C:.`.
+fn dot_disk(k: Seps, h: Start, s: &[u8]) -> bool
+    ensures { λ r. ⌜ r ≡ dotBehind k h (now (s .entry)) ⌝ }
+{
+    let p = h.prefix;
+    if on_disk(p) {
+        let d = h.dir;
+        if is_bare(d) {
+            let e = h.end;
+            return components::dot_at(k, s, e);
+        }
+    }
+    false
+}
+
+// Where the head ends, with that dot.
+fn head_end(k: Seps, h: Start, s: &[u8]) -> usize
+    requires { ⌜ OpenAt k (now s) h ⌝ }
+    ensures { λ r. ⌜ CutAt (dotBehind k h (now (s .entry))) (headList h) (now (s .entry)) r ⌝ }
+{
+    let at = h.at;
+    if dot_disk(k, h, s) {
+        return at + 1;
+    }
+    at
+}
+
+// Where the last component before place e ends; 0 if there is none.
+fn end_before(k: Seps, h: Start, s: &[u8], e: usize) -> usize
+    requires { ⌜ OpenAt k (now s) h × (e ≤ length (now s)) ⌝ }
+    ensures { λ r. ⌜ CutAt (dotBehind k h (now (s .entry))) (leftOf h (now (s .entry)) e) (now (s .entry)) r ⌝ }
+{
+    let inner = h.seps;
+    let at = h.at;
+    let p = parts::last(inner, s, at, e);
+    match p {
+        Piece::Nothing => head_end(k, h, s),
+        Piece::Found(q) => q.start + q.len,
+    }
+}
+
+// n steps back through the body that starts at `at`.
+fn climb(k: Seps, s: &[u8], at: usize, n: usize) -> Reached
+    ensures { λ r. ⌜ ClimbAt (isSep k) (dots k) (now (s .entry)) at n r ⌝ }
+{
+    let mut e = s.len();
+    let mut left = n;
+    while 0 < left {
+        let p = parts::last(k, s, at, e);
+        match p {
+            Piece::Nothing => {
+                return Reached::Head(left);
+            }
+            Piece::Found(q) => {
+                e = q.start;
+                left -= 1;
+            }
+        }
+    }
+    Reached::Body(e)
+}
+
+// What remains of a head alone after steps back: a lone dot can be taken, a prefix and a root cannot.
+fn head_up(d: Dir, left: usize) -> View
+    ensures { λ r. ⌜ r ≡ headUp d left ⌝ }
+{
+    match d {
+        Dir::Bare => answers::refuse_view(Reply::Absent),
+        Dir::Root => answers::refuse_view(Reply::Absent),
+        Dir::Implied => answers::refuse_view(Reply::Absent),
+        Dir::Dot => {
+            if left == 1 {
+                return View {
+                    reply: Reply::Done,
+                    start: 0,
+                    len: 0,
+                };
+            }
+            answers::refuse_view(Reply::Absent)
+        }
+    }
+}
+
+// What remains after n steps back.
+fn up(k: Seps, s: &[u8], n: usize) -> View
+    ensures { λ r. ⌜ ViewAt (upOf (dotDisk k (now (s .entry))) (listOf k (now (s .entry))) n) (now (s .entry)) r ⌝ }
+{
+    let h = components::begin(k, s);
+    let inner = h.seps;
+    let at = h.at;
+    let c = climb(inner, s, at, n);
+    match c {
+        Reached::Body(e) => {
+            let len = end_before(k, h, s, e);
+            View {
+                reply: Reply::Done,
+                start: 0,
+                len,
+            }
+        }
+        Reached::Head(left) => {
+            let d = h.dir;
+            head_up(d, left)
+        }
+    }
+}
+
+pub fn parent(k: Seps, s: &[u8]) -> View
+    ensures { λ r. ⌜ ViewAt (parentOf k (now (s .entry))) (now (s .entry)) r ⌝ }
+{
+    up(k, s, 1)
+}
+
+// The n-th ancestor; 0 is the path itself.
+pub fn ancestor(k: Seps, s: &[u8], n: usize) -> View
+    ensures { λ r. ⌜ ViewAt (ancestorOf n k (now (s .entry))) (now (s .entry)) r ⌝ }
+{
+    if n == 0 {
+        return View {
+            reply: Reply::Done,
+            start: 0,
+            len: s.len(),
+        };
+    }
+    up(k, s, n)
+}
+
+fn is_name(k: Kind) -> bool
+    ensures { λ r. ⌜ r ≡ isName k ⌝ }
+{
+    match k {
+        Kind::Dot => false,
+        Kind::DotDot => false,
+        Kind::Name => true,
+    }
+}
+
+// The last part, if it is a name. No head is one, so the body alone is asked.
+fn name_part(k: Seps, s: &[u8]) -> Piece
+    ensures { λ r. ⌜ NameAt k (now (s .entry)) r ⌝ }
+{
+    let h = components::begin(k, s);
+    let inner = h.seps;
+    let at = h.at;
+    let p = parts::last(inner, s, at, s.len());
+    match p {
+        Piece::Nothing => Piece::Nothing,
+        Piece::Found(q) => {
+            let kind = q.kind;
+            if is_name(kind) {
+                return Piece::Found(q);
+            }
+            Piece::Nothing
+        }
+    }
+}
+
+// The place of the last dot between lo and hi; lo where none stands behind it.
+fn last_dot(s: &[u8], lo: usize, hi: usize) -> usize
+    requires { ⌜ (lo ≤ hi) × (hi ≤ length (now s)) ⌝ }
+    ensures { λ r. ⌜ DotAt (now (s .entry)) lo hi r ⌝ }
+{
+    let mut i = hi;
+    while lo < i {
+        let j = i - 1;
+        if s[j] == 46 {
+            return j;
+        }
+        i = j;
+    }
+    lo
+}
+
+pub fn file_name(k: Seps, s: &[u8]) -> View
+    ensures { λ r. ⌜ ViewAt (fileNameOf k (now (s .entry))) (now (s .entry)) r ⌝ }
+{
+    let p = name_part(k, s);
+    match p {
+        Piece::Nothing => answers::refuse_view(Reply::Absent),
+        Piece::Found(q) => View {
+            reply: Reply::Done,
+            start: q.start,
+            len: q.len,
+        },
+    }
+}
+
+pub fn file_stem(k: Seps, s: &[u8]) -> View
+    ensures { λ r. ⌜ ViewAt (fileStemOf k (now (s .entry))) (now (s .entry)) r ⌝ }
+{
+    let p = name_part(k, s);
+    match p {
+        Piece::Nothing => answers::refuse_view(Reply::Absent),
+        Piece::Found(q) => {
+            let lo = q.start;
+            let hi = lo + q.len;
+            let d = last_dot(s, lo, hi);
+            if lo < d {
+                return View {
+                    reply: Reply::Done,
+                    start: lo,
+                    len: d - lo,
+                };
+            }
+            View {
+                reply: Reply::Done,
+                start: lo,
+                len: q.len,
+            }
+        }
+    }
+}
+
+pub fn extension(k: Seps, s: &[u8]) -> View
+    ensures { λ r. ⌜ ViewAt (extensionOf k (now (s .entry))) (now (s .entry)) r ⌝ }
+{
+    let p = name_part(k, s);
+    match p {
+        Piece::Nothing => answers::refuse_view(Reply::Absent),
+        Piece::Found(q) => {
+            let lo = q.start;
+            let hi = lo + q.len;
+            let d = last_dot(s, lo, hi);
+            let b = d + 1;
+            if d == lo {
+                return answers::refuse_view(Reply::Absent);
+            }
+            View {
+                reply: Reply::Done,
+                start: b,
+                len: hi - b,
+            }
+        }
+    }
+}
