@@ -1,7 +1,7 @@
 // A request of the ask protocol, answered by the library's public calls. Proved: every function is safe whatever the line, and no
 // answer is longer than protocol::ANSWER. That each answer is put together as the protocol says is tested against stored answers.
+mod seen;
 mod steps;
-mod views;
 mod writes;
 
 use protocol::Line;
@@ -55,11 +55,11 @@ fn reply(
         Verb::Rest => steps::rest(q, p, out, n),
         Verb::Root => steps::root(q, p, out, n),
         Verb::IsAbsolute => steps::is_absolute(q, p, out, n),
-        Verb::Parent => views::parent(q, p, out, n),
-        Verb::Ancestor => views::ancestor(q, p, out, n),
-        Verb::Name => views::name(q, p, out, n),
-        Verb::Stem => views::stem(q, p, out, n),
-        Verb::Extension => views::extension(q, p, out, n),
+        Verb::Parent => seen::parent(q, p, out, n),
+        Verb::Ancestor => seen::ancestor(q, p, out, n),
+        Verb::Name => seen::name(q, p, out, n),
+        Verb::Stem => seen::stem(q, p, out, n),
+        Verb::Extension => seen::extension(q, p, out, n),
         Verb::Absolute => writes::written(q, p, other, space, out, n),
         _ => protocol::put_bad(out, n),
     }

@@ -15,7 +15,7 @@ pub fn ancestor(q: Request, p: &[u8], out: &mut [u8; SPACE], n: usize) -> usize
     requires { ⌜ n + 131584 ≤ 262144 ⌝ }
     ensures { λ r. ⌜ r ≤ n + 131584 ⌝ }
 {
-    put_view(paths::ancestor(q.mode, q.first, p), out, n)
+    put_view(paths::ancestor(q.mode, p, q.first), out, n)
 }
 
 pub fn name(q: Request, p: &[u8], out: &mut [u8; SPACE], n: usize) -> usize
