@@ -240,7 +240,7 @@ unfolding headValues headList
 head-values s g = values-append s (prefixPart (g .prefix) (g .end)) (dirPart (g .dir) (g .end)) ∙ rw (prefix-values s (g .prefix) (g .end), dir-values s (g .dir) (g .end))
 
 -- a head of no values
-no-head : (s : List ℕ) (p : Parsed) (d : Dir) → prefixValues s p ++ dirValues (dirRank d) ≡ [] → (p ≡ Nothing) × (d ≡ Bare)
+pub no-head : (s : List ℕ) (p : Parsed) (d : Dir) → prefixValues s p ++ dirValues (dirRank d) ≡ [] → (p ≡ Nothing) × (d ≡ Bare)
 unfolding dirValues
 no-head s Nothing Bare e = (refl, refl)
 no-head s Nothing Root e = bad (cc)
