@@ -4,6 +4,7 @@ mod absolutes;
 mod steps;
 mod tests;
 mod view;
+mod writes;
 
 pub use absolutes::absolute;
 use answers::Reply;
@@ -18,6 +19,9 @@ pub use view::extension;
 pub use view::file_name;
 pub use view::file_stem;
 pub use view::parent;
+pub use writes::join;
+pub use writes::set_extension;
+pub use writes::set_file_name;
 ghost use mathlib.Core.Path.{_≡_};
 ghost use Rattle.answers.specs.Outcome.{told};
 ghost use Rattle.paths.specs.Prefix.{refusedPrefix, prefixCall};
