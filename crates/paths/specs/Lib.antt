@@ -1,6 +1,7 @@
 pub mod Prefix
 pub mod Steps
 pub mod Tests
+pub mod Pairs
 pub mod Writes
 pub mod Laws
 pub mod StepLaws
@@ -10,3 +11,4 @@ pub mod AbsoluteLaws
 pub mod Views
 pub mod ViewLaws
 pub mod WriteLaws
+pub mod PairLaws

@@ -1,6 +1,7 @@
 // The public calls. Each takes the mode as a number and any bytes, and refuses what document 01 says is refused; none has
 // a `requires`. What a call promises is its definition in specs/, a chain of guards in front of what was asked for.
 mod absolutes;
+mod pairs;
 mod steps;
 mod tests;
 mod view;
@@ -8,6 +9,10 @@ mod writes;
 
 pub use absolutes::absolute;
 use answers::Reply;
+pub use pairs::compare;
+pub use pairs::ends_with;
+pub use pairs::starts_with;
+pub use pairs::strip_prefix;
 use prefixes::Parsed;
 pub use steps::Cursor;
 pub use steps::Stepped;
