@@ -7,20 +7,17 @@ use lib.ListN.{length}
 use Rattle.octets.specs.Class.{limit, sepsOf}
 use Rattle.octets.specs.declared.Seps.{Seps}
 use Rattle.answers.specs.declared.Reply.{Reply}
-use Rattle.answers.specs.declared.Reply.the-variants.{Done, Mode, Length, Absent}
+use Rattle.answers.specs.declared.Reply.the-variants.{Mode, Length}
 use Rattle.answers.specs.declared.Verdict.{Verdict}
 use Rattle.answers.specs.declared.View.{View}
-use Rattle.answers.specs.Reply.{refusedView, refusedVerdict, seen, bit, judged}
+use Rattle.answers.specs.Reply.{refusedView, refusedVerdict, bit, judged}
 use Rattle.answers.specs.Outcome.{Outcome, told}
 use Rattle.answers.specs.Laws.{no-mode, too-long, second-long, both-well}
 use Rattle.order.specs.declared.Ordering.{Ordering}
 use Rattle.order.specs.declared.Ordering.the-variants.{Less, Equal, Greater}
 use Rattle.order.specs.Order.{compareOf}
-use Rattle.matches.specs.declared.Span.{Span}
-use Rattle.matches.specs.declared.Stripped.{Stripped}
-use Rattle.matches.specs.declared.Stripped.the-variants.{Off, Rest}
 use Rattle.matches.specs.Strip.{stripOf}
-use Rattle.paths.specs.Pairs.{pairCall, rankOf, comparedAs, testedAs, strippedAs, leftAs}
+use Rattle.paths.specs.Pairs.{pairCall, rankOf, comparedAs, testedAs}
 
 module _ {A : Type 0} (no' : Reply → A) (f : Seps → List ℕ → List ℕ → Outcome A) (m : ℕ) (p q : List ℕ) (x : A) where
   pair-mode : x ≡ no' Mode → 1 < m → x ≡ told no' (pairCall f m p q)
@@ -59,7 +56,7 @@ module _ (m : ℕ) (p q : List ℕ) (x : Verdict) (k : Seps) (g : m ≤ 1) (h : 
   unfolding told
   pair-test t b e w = pair-well refusedVerdict (testedAs t) m p q x k g h l j (w ∙ rw e)
 
--- `rank`, `stripped`
+-- `rank`
 module _ (o : Ordering) where
   pub rank-less : o ≡ Less → judged 0 ≡ judged (rankOf o)
   rank-less e = rw e
@@ -70,26 +67,18 @@ module _ (o : Ordering) where
   pub rank-greater : o ≡ Greater → judged 2 ≡ judged (rankOf o)
   rank-greater e = rw e
 
-pub strip-off : (r : Stripped) (x : View) → r ≡ Off → x ≡ refusedView Absent → x ≡ told refusedView (strippedAs r)
-unfolding told
-strip-off r x e f = f ∙ rw e
-
-pub strip-rest : (r : Stripped) (w : Span) → r ≡ Rest w → seen (w .start) (w .len) ≡ told refusedView (strippedAs r)
-unfolding told
-strip-rest r w e = rw e
-
 -- a view
 module _ (m : ℕ) (p q : List ℕ) (x : View) where
-  pub strip-mode : x ≡ refusedView Mode → 1 < m → x ≡ told refusedView (pairCall leftAs m p q)
-  strip-mode e h = pair-mode refusedView leftAs m p q x e h
+  pub strip-mode : x ≡ refusedView Mode → 1 < m → x ≡ told refusedView (pairCall stripOf m p q)
+  strip-mode e h = pair-mode refusedView stripOf m p q x e h
 
-  pub strip-long : x ≡ refusedView Length → m ≤ 1 → limit < length p → x ≡ told refusedView (pairCall leftAs m p q)
-  strip-long e g h = pair-long refusedView leftAs m p q x e g h
+  pub strip-long : x ≡ refusedView Length → m ≤ 1 → limit < length p → x ≡ told refusedView (pairCall stripOf m p q)
+  strip-long e g h = pair-long refusedView stripOf m p q x e g h
 
-  pub strip-second : x ≡ refusedView Length → m ≤ 1 → length p ≤ limit → limit < length q → x ≡ told refusedView (pairCall leftAs m p q)
-  strip-second e g h l = pair-second refusedView leftAs m p q x e g h l
+  pub strip-second : x ≡ refusedView Length → m ≤ 1 → length p ≤ limit → limit < length q → x ≡ told refusedView (pairCall stripOf m p q)
+  strip-second e g h l = pair-second refusedView stripOf m p q x e g h l
 
-  pub strip-well : (k : Seps) (r : Stripped) → m ≤ 1 → length p ≤ limit → length q ≤ limit → k ≡ sepsOf m → r ≡ stripOf k p q → x ≡ told refusedView (strippedAs r) → x ≡ told refusedView (pairCall leftAs m p q)
-  strip-well k r g h l j e w = pair-well refusedView leftAs m p q x k g h l j (w ∙ rw e)
+  pub strip-well : (k : Seps) → m ≤ 1 → length p ≤ limit → length q ≤ limit → k ≡ sepsOf m → x ≡ told refusedView (stripOf k p q) → x ≡ told refusedView (pairCall stripOf m p q)
+  strip-well k g h l j e = pair-well refusedView stripOf m p q x k g h l j e
 
-pub ruleset pairs = (verdict-mode, verdict-long, verdict-second, compare-well, pair-test, rank-less, rank-equal, rank-greater, strip-off, strip-rest, strip-mode, strip-long, strip-second, strip-well)
+pub ruleset pairs = (verdict-mode, verdict-long, verdict-second, compare-well, pair-test, rank-less, rank-equal, rank-greater, strip-mode, strip-long, strip-second, strip-well)

@@ -4,16 +4,13 @@ use mathlib.Core.List.{List}
 use mathlib.Core.Bool.{Bool}
 use Rattle.octets.specs.Class.{sepsOf}
 use Rattle.octets.specs.declared.Seps.{Seps}
-use Rattle.answers.specs.declared.Reply.the-variants.{Absent}
 use Rattle.answers.specs.declared.Verdict.{Verdict}
 use Rattle.answers.specs.declared.View.{View}
-use Rattle.answers.specs.Reply.{seen, bit, judged}
-use Rattle.answers.specs.Outcome.{Outcome, refuse, result, inMode, short}
+use Rattle.answers.specs.Reply.{bit, judged}
+use Rattle.answers.specs.Outcome.{Outcome, result, inMode, short}
 use Rattle.order.specs.declared.Ordering.{Ordering}
 use Rattle.order.specs.declared.Ordering.the-variants.{Less, Equal, Greater}
 use Rattle.order.specs.Order.{compareOf}
-use Rattle.matches.specs.declared.Stripped.{Stripped}
-use Rattle.matches.specs.declared.Stripped.the-variants.{Off, Rest}
 use Rattle.matches.specs.Match.{startsOf, endsOf}
 use Rattle.matches.specs.Strip.{stripOf}
 
@@ -33,14 +30,6 @@ comparedAs k p q = result (judged (rankOf (compareOf k p q)))
 abbrev pub testedAs : (Seps → List ℕ → List ℕ → Bool) → Seps → List ℕ → List ℕ → Outcome Verdict
 testedAs t k p q = result (judged (bit (t k p q)))
 
--- 3 "a strip does not match"
-abbrev pub strippedAs : Stripped → Outcome View
-strippedAs Off = refuse Absent
-strippedAs (Rest w) = result (seen (w .start) (w .len))
-
-abbrev pub leftAs : Seps → List ℕ → List ℕ → Outcome View
-leftAs k p q = strippedAs (stripOf k p q)
-
 abbrev pub compareCall : ℕ → List ℕ → List ℕ → Outcome Verdict
 compareCall = pairCall comparedAs
 
@@ -51,4 +40,4 @@ abbrev pub endsCall : ℕ → List ℕ → List ℕ → Outcome Verdict
 endsCall = pairCall (testedAs endsOf)
 
 abbrev pub stripCall : ℕ → List ℕ → List ℕ → Outcome View
-stripCall = pairCall leftAs
+stripCall = pairCall stripOf

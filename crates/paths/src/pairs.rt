@@ -2,12 +2,11 @@
 use answers::Reply;
 use answers::Verdict;
 use answers::View;
-use matches::Stripped;
 use order::Ordering;
 ghost use mathlib.Core.Path.{_≡_};
 ghost use Rattle.answers.specs.Reply.{refusedView, refusedVerdict, judged};
 ghost use Rattle.answers.specs.Outcome.{told};
-ghost use Rattle.paths.specs.Pairs.{rankOf, strippedAs, compareCall, startsCall, endsCall, stripCall};
+ghost use Rattle.paths.specs.Pairs.{rankOf, compareCall, startsCall, endsCall, stripCall};
 
 fn rank(o: Ordering) -> Verdict
     ensures { λ a. ⌜ a ≡ judged (rankOf o) ⌝ }
@@ -76,19 +75,6 @@ pub fn ends_with(mode: usize, p: &[u8], q: &[u8]) -> Verdict
     answers::judge(matches::ends_with(octets::seps_of(mode), p, q))
 }
 
-fn stripped(r: Stripped) -> View
-    ensures { λ a. ⌜ a ≡ told refusedView (strippedAs r) ⌝ }
-{
-    match r {
-        Stripped::Off => answers::refuse_view(Reply::Absent),
-        Stripped::Rest(w) => View {
-            reply: Reply::Done,
-            start: w.start,
-            len: w.len,
-        },
-    }
-}
-
 // What of p remains behind q.
 pub fn strip_prefix(mode: usize, p: &[u8], q: &[u8]) -> View
     ensures { λ a. ⌜ a ≡ told refusedView (stripCall mode (now (p .entry)) (now (q .entry))) ⌝ }
@@ -102,5 +88,5 @@ pub fn strip_prefix(mode: usize, p: &[u8], q: &[u8]) -> View
     if q.len() > octets::LIMIT {
         return answers::refuse_view(Reply::Length);
     }
-    stripped(matches::strip_prefix(octets::seps_of(mode), p, q))
+    matches::strip_prefix(octets::seps_of(mode), p, q)
 }
