@@ -31,9 +31,9 @@ use Rattle.parts.specs.declared.Part.{Part}
 use Rattle.parts.specs.declared.Piece.{Piece}
 use Rattle.parts.specs.declared.Piece.the-variants.{Nothing, Found}
 use Rattle.parts.specs.Body.{componentOf, dots, from}
-use Rattle.parts.specs.Elements.{Upto, inBody, Plain}
+use Rattle.parts.specs.Elements.{Upto}
 use Rattle.parts.specs.Steps.{lift, FirstAt, within}
-use Rattle.parts.specs.Laws.{first-none, first-found, from-upto, from-plain, cut}
+use Rattle.parts.specs.Laws.{first-none, first-found, from-upto, Bodily, Goods, from-good, cut}
 use Rattle.components.specs.declared.Dir.{Dir}
 use Rattle.components.specs.declared.Dir.the-variants.{Bare, Root, Implied, Dot}
 use Rattle.components.specs.declared.Start.{Start}
@@ -395,17 +395,17 @@ module _ (s : List ℕ) (j : ℕ) (l : j ≤ length s) where
       ap (λ (x : List ℕ). take n (drop i x)) (sym (take-append-drop j s))
       ∙ rw (drop-append-le i (take j s) (drop j s) (omega arith)) (take-append-le n (drop i (take j s)) (drop j s) (omega (arith, length-drop i (take j s))))
 
-  value-front : (c : Component) (i n : ℕ) → i + n ≤ j → inBody c ≡ true → valueBy s c i n ≡ valueBy (take j s) c i n
-  value-front (Prefixed p) i n h e = absurd (false≢true e)
-  value-front RootDir i n h e = absurd (false≢true e)
-  value-front CurDir i n h e = refl
-  value-front ParentDir i n h e = refl
-  value-front Normal i n h e = rw (bytes-front i n h)
+  value-front : (v : Bool) (c : Component) (i n : ℕ) → i + n ≤ j → Bodily v c → valueBy s c i n ≡ valueBy (take j s) c i n
+  value-front v (Prefixed p) i n h e = absurd e
+  value-front v RootDir i n h e = absurd e
+  value-front v CurDir i n h e = refl
+  value-front v ParentDir i n h e = refl
+  value-front v Normal i n h e = rw (bytes-front i n h)
 
-  values-front : (m : List Element) → Upto j m → Plain m → valuesIn s m ≡ valuesIn (take j s) m
-  unfolding valuesIn Upto Plain
-  values-front [] u w = refl
-  values-front (e ∷ m) u w = rw (value-front (e .component) (e .start) (e .len) (u .0) (w .0), values-front m (u .1) (w .1))
+  values-front : (sep : ℕ → Bool) (v : Bool) (w : List ℕ) (m : List Element) → Upto j m → Goods sep v w m → valuesIn s m ≡ valuesIn (take j s) m
+  unfolding valuesIn Upto Goods
+  values-front sep v w [] u g = refl
+  values-front sep v w (e ∷ m) u g = rw (value-front v (e .component) (e .start) (e .len) (u .0) (g .0 .bodily), values-front sep v w m (u .1) (g .1))
 
 -- `seam`
 module _ (sep : ℕ → Bool) (s : List ℕ) (lo hi i : ℕ) where
@@ -464,8 +464,10 @@ module _ (k : Seps) (s t : List ℕ) (i n r : ℕ) (d : Differ s t n) (x : i < r
 
   shared-alike : valuesIn s shared ≡ valuesIn t shared
   shared-alike =
-      let u = from-plain (isSep k) (dots k) (take (r - 1) s) i in
-      values-front s (r - 1) front-long shared shared-upto u ∙ ap (λ (w : List ℕ). valuesIn w shared) fronts ∙ sym (values-front t (r - 1) front-also shared shared-upto u)
+      let u = from-good (isSep k) (dots k) (take (r - 1) s) i in
+      values-front s (r - 1) front-long (isSep k) (dots k) (take (r - 1) s) shared shared-upto u
+      ∙ ap (λ (w : List ℕ). valuesIn w shared) fronts
+      ∙ sym (values-front t (r - 1) front-also (isSep k) (dots k) (take (r - 1) s) shared shared-upto u)
 
   skip-seam : SkipAt k s i k t i (r - i)
   skip-seam =
