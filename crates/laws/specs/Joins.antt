@@ -1,14 +1,15 @@
 -- What a Unix join does to the lists of two paths, by the lists of values. `seamed Unix p q` is the join of p and q.
 use Prim.Native.Nat.{ℕ, zero, suc, _+_, _-_, _<_, _≤_}
+use native.Mathlib.Nat.{add-zero}
 use native.Mathlib.Omega.{arith}
 use mathlib.Core.Path.{_≡_, refl, sym, ap, _∙_}
-use mathlib.Core.List.{List, [], _∷_, _++_, append-assoc}
+use mathlib.Core.List.{List, [], _∷_, _++_, append-assoc, append-nil}
 use mathlib.Core.Bool.{Bool, true, false, cond, false≢true}
 use mathlib.Core.Logic.{⊎-elim}
-use lib.ListN.{length, getD, take, drop, drop-of-length-le}
-use lib.Seq.{split-at}
-use lib.Dec.{eqb}
-use borrow.Author.Tests.{not-false}
+use lib.ListN.{length, getD, take, drop, drop-of-length-le, take-append-drop, length-map}
+use lib.Seq.{split-at, take-all, getD-take, getD-drop}
+use lib.Dec.{eqb, ltb}
+use borrow.Author.Tests.{not-false, ne-eqb, lt-ltb, le-ltb, ltb-true, ltb-false}
 use Rattle.octets.specs.Class.{isSep}
 use Rattle.octets.specs.Laws.{split}
 use Rattle.octets.specs.declared.Seps.the-variants.{Unix}
@@ -17,12 +18,15 @@ use Rattle.parts.specs.declared.Component.{Component}
 use Rattle.parts.specs.declared.Component.the-variants.{Prefix, RootDir, CurDir, ParentDir, Normal}
 use Rattle.parts.specs.declared.Element.{Element}
 use Rattle.parts.specs.Body.{from}
+use Rattle.parts.specs.Elements.{nthOf, nthBackOf, startOr, endOr}
 use Rattle.parts.specs.Laws.{Bodily, Goods, from-good}
-use Rattle.components.specs.List.{sepAt, dotAt, dirOf}
-use Rattle.order.specs.Values.{Value, valueBy, valuesIn, valuesOf}
+use Rattle.components.specs.List.{sepAt, dotAt, dirOf, startOf, listOf}
+use Rattle.cursors.specs.declared.Span.{Span}
+use Rattle.cursors.specs.Rest.{span, isPrefix, leftEnd, emptyAt, dotted, behindDot, restOf}
+use Rattle.order.specs.Values.{Value, bytesAt, valueOf, valueBy, valuesIn, valuesOf}
 use Rattle.seams.specs.Seam.{wants, glued, seamed}
-use Rattle.seams.specs.Laws.{either, wants-last, glued-open, glued-shut, seamed-relative}
-use Rattle.laws.specs.Values.{segments, from-values, values-plain, values-seam, values-behind}
+use Rattle.seams.specs.Laws.{either, wants-last, starts-nil, glued-open, glued-shut, seamed-relative, seamed-empty}
+use Rattle.laws.specs.Values.{segments, segments-none, from-values, segments-trail, values-plain, values-seam, values-behind, values-drop, values-some, values-front, list-none, unix-from, unix-clear, unix-trail, unix-plain}
 
 -- "less a leading dot": without a first value that is a CurDir
 unfoldable pub undotted : List Value → List Value
@@ -72,3 +76,103 @@ joined-segments p q h r = rw (seamed-relative Unix p q r) (glued-values p q h)
 -- "A relative q joined to a nonempty p has p's components, then q's less a leading dot, by the lists of values."
 pub joined-values : (p q : List ℕ) → (length p ≡ 0 → ⊥) → sepAt Unix q 0 ≡ false → valuesOf Unix (seamed Unix p q) ≡ valuesOf Unix p ++ undotted (valuesOf Unix q)
 joined-values p q h r = rw (relative-undotted q r) (joined-segments p q h r)
+
+-- ---- what remains behind a base
+
+-- the bytes of s between two places
+abbrev pub spanned : List ℕ → Span → List ℕ
+spanned s w = bytesAt s (w .start) (w .end - w .start)
+
+-- "Strip: the rest after the base's components", where those are f; no Unix path is dotted
+abbrev pub remains : List ℕ → ℕ → List ℕ
+remains s f = spanned s (restOf false (listOf Unix s) f 0)
+
+pub unix-undotted : (s : List ℕ) → dotted (startOf Unix s) s ≡ false
+unfolding dotted startOf
+unix-undotted s = refl
+
+values-length : (s : List ℕ) → length (valuesOf Unix s) ≡ length (listOf Unix s)
+unfolding valuesOf valuesIn
+values-length s = length-map (listOf Unix s) (valueOf s)
+
+-- where element f starts, and where the last one ends
+abbrev left : List ℕ → ℕ → ℕ
+left s f = startOr (nthOf (listOf Unix s) f)
+
+abbrev right : List ℕ → ℕ
+right s = endOr (nthBackOf (listOf Unix s) 0)
+
+module _ (s : List ℕ) (f : ℕ) where
+  rest-none : length (listOf Unix s) ≤ f → remains s f ≡ []
+  unfolding restOf behindDot
+  rest-none h =
+      let n : emptyAt (listOf Unix s) f - emptyAt (listOf Unix s) f ≡ 0 = omega arith in
+      rw (le-ltb (f + 0) (length (listOf Unix s)) (omega arith), n)
+
+  rest-some : f < length (listOf Unix s) → restOf false (listOf Unix s) f 0 ≡ span (leftEnd (listOf Unix s) f) (right s)
+  unfolding restOf behindDot
+  rest-some h = rw (lt-ltb (f + 0) (length (listOf Unix s)) (omega arith))
+
+  left-some : 0 < f → leftEnd (listOf Unix s) f ≡ left s f
+  unfolding leftEnd
+  left-some h = rw (ne-eqb f 0 (λ z. omega arith), unix-plain s) (split (eqb f 1) (λ e. rw e) (λ e. rw e))
+
+-- with nothing taken: all up to the end of the last element
+rest-all : (s : List ℕ) → 0 < length (listOf Unix s) → remains s 0 ≡ take (right s) s
+unfolding leftEnd
+rest-all s h =
+    let n : right s - 0 ≡ right s = omega arith in
+    rw (rest-some s 0 h, n)
+
+start-clear : (s : List ℕ) (a n : ℕ) → isSep Unix (getD s a 0) ≡ false → 0 < n → sepAt Unix (bytesAt s a n) 0 ≡ false
+unfolding sepAt
+start-clear s a n e h =
+    rw (getD-take n (drop a s) 0 0 h, getD-drop a s 0 0, add-zero)
+    (split (ltb 0 (length (bytesAt s a n))) (λ f. rw f e) (λ f. rw f))
+
+-- behind the first f elements, of which there is one at least, stands a relative path with the values that are left
+module _ (s : List ℕ) (f : ℕ) (k : 0 < f) (l : f < length (listOf Unix s)) where
+  rest-is : remains s f ≡ bytesAt s (left s f) (right s - left s f)
+  rest-is = rw (rest-some s f l, left-some s f k)
+
+  rest-relative : sepAt Unix (remains s f) 0 ≡ false
+  rest-relative = rw rest-is (start-clear s (left s f) (right s - left s f) (unix-clear s f k l) (omega (arith, unix-trail s f k l .low)))
+
+  rest-values : segments (isSep Unix) false (remains s f) ≡ drop f (valuesOf Unix s)
+  unfolding valuesOf
+  rest-values =
+      rw rest-is (segments-trail (isSep Unix) false s (left s f) (right s) (unix-trail s f k l)
+      ∙ sym (from-values (isSep Unix) false s (left s f))
+      ∙ ap (valuesIn s) (sym (unix-from s f k l))
+      ∙ sym (values-drop s f (listOf Unix s)))
+
+-- the base is not empty
+back-some : (s t : List ℕ) (f : ℕ) → take f (valuesOf Unix s) ≡ valuesOf Unix t → (length t ≡ 0 → ⊥) → 0 < f → valuesOf Unix (seamed Unix t (remains s f)) ≡ valuesOf Unix s
+back-some s t f e n k = split (ltb f (length (listOf Unix s))) inner outer
+  where
+    inner : ltb f (length (listOf Unix s)) ≡ true → valuesOf Unix (seamed Unix t (remains s f)) ≡ valuesOf Unix s
+    inner b =
+        let l = ltb-true f (length (listOf Unix s)) b in
+        rw (joined-segments t (remains s f) n (rest-relative s f k l), rest-values s f k l, ← e) (take-append-drop f (valuesOf Unix s))
+
+    outer : ltb f (length (listOf Unix s)) ≡ false → valuesOf Unix (seamed Unix t (remains s f)) ≡ valuesOf Unix s
+    outer b =
+        let l = ltb-false f (length (listOf Unix s)) b in
+        rw (rest-none s f l, joined-segments t [] n (starts-nil Unix), segments-none, append-nil, ← e) (take-all f (valuesOf Unix s) (omega (arith, values-length s)))
+
+-- the base is empty
+list-some : (s : List ℕ) → (length s ≡ 0 → ⊥) → 0 < length (listOf Unix s)
+list-some s h = omega (arith, values-some s h, values-length s)
+
+back-none : (s : List ℕ) → valuesOf Unix (remains s 0) ≡ valuesOf Unix s
+back-none [] = rw (rest-none [] 0 (omega (arith, ap length list-none)))
+back-none (x ∷ s) =
+    let h : 0 < length (listOf Unix (x ∷ s)) = list-some (x ∷ s) (λ z. omega arith) in
+    rw (rest-all (x ∷ s) h) (values-front (x ∷ s) h)
+
+-- "If a base can be stripped from a path, joining what remains back to it gives the path's own component list."
+pub stripped-back : (s t : List ℕ) → take (length (listOf Unix t)) (valuesOf Unix s) ≡ valuesOf Unix t → valuesOf Unix (seamed Unix t (remains s (length (listOf Unix t)))) ≡ valuesOf Unix s
+stripped-back s [] e = rw (seamed-empty, list-none) (back-none s)
+stripped-back s (x ∷ t) e =
+    let h : length (x ∷ t) ≡ 0 → ⊥ = λ z. omega arith in
+    back-some s (x ∷ t) (length (listOf Unix (x ∷ t))) e h (list-some (x ∷ t) h)
