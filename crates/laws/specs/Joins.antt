@@ -1,5 +1,5 @@
 -- What a Unix join does to the lists of two paths, by the lists of values. `seamed Unix p q` is the join of p and q.
-use Prim.Native.Nat.{ℕ, zero, suc, _+_, _-_, _<_, _≤_}
+use Prim.Native.Nat.{ℕ, suc, _+_, _-_, _<_, _≤_}
 use native.Mathlib.Nat.{add-zero}
 use native.Mathlib.Omega.{arith}
 use mathlib.Core.Path.{_≡_, refl, sym, ap, _∙_}
@@ -13,20 +13,18 @@ use borrow.Author.Tests.{not-false, ne-eqb, lt-ltb, le-ltb, ltb-true, ltb-false}
 use Rattle.octets.specs.Class.{isSep}
 use Rattle.octets.specs.Laws.{split}
 use Rattle.octets.specs.declared.Seps.the-variants.{Unix}
-use Rattle.prefixes.specs.declared.Parsed.the-variants.{Nothing}
 use Rattle.parts.specs.declared.Component.{Component}
 use Rattle.parts.specs.declared.Component.the-variants.{Prefix, RootDir, CurDir, ParentDir, Normal}
 use Rattle.parts.specs.declared.Element.{Element}
-use Rattle.parts.specs.Body.{from}
 use Rattle.parts.specs.Elements.{nthOf, nthBackOf, startOr, endOr}
 use Rattle.parts.specs.Laws.{Bodily, Goods, from-good}
 use Rattle.components.specs.List.{sepAt, dotAt, dirOf, startOf, listOf}
 use Rattle.cursors.specs.declared.Span.{Span}
-use Rattle.cursors.specs.Rest.{span, isPrefix, leftEnd, emptyAt, dotted, behindDot, restOf}
+use Rattle.cursors.specs.Rest.{span, leftEnd, emptyAt, dotted, behindDot, restOf}
 use Rattle.order.specs.Values.{Value, bytesAt, valueOf, valueBy, valuesIn, valuesOf}
 use Rattle.seams.specs.Seam.{wants, glued, seamed}
 use Rattle.seams.specs.Laws.{either, wants-last, starts-nil, glued-open, glued-shut, seamed-relative, seamed-empty}
-use Rattle.laws.specs.Values.{segments, segments-none, from-values, segments-trail, values-plain, values-seam, values-behind, values-drop, values-some, values-front, list-none, unix-from, unix-clear, unix-trail, unix-plain}
+use Rattle.laws.specs.Values.{segments-none, bodyOf, partsOf, from-values, segments-trail, values-plain, values-seam, values-behind, values-drop, values-some, values-front, list-none, unix-from, unix-clear, unix-trail, unix-plain}
 
 -- "less a leading dot": without a first value that is a CurDir
 unfoldable pub undotted : List Value → List Value
@@ -47,30 +45,30 @@ unfolding valuesIn Goods undotted
 elements-undotted sep s [] g = refl
 elements-undotted sep s (x ∷ l) g = component-undotted s (x .component) (x .start) (x .len) (valuesIn s l) (g .0 .bodily)
 
-segments-undotted : (q : List ℕ) → undotted (segments (isSep Unix) false q) ≡ segments (isSep Unix) false q
-segments-undotted q = rw (from-values (isSep Unix) false q 0) at (elements-undotted (isSep Unix) q (from (isSep Unix) false q 0) (from-good (isSep Unix) false q 0))
+segments-undotted : (q : List ℕ) → undotted (partsOf q) ≡ partsOf q
+segments-undotted q = rw (from-values (isSep Unix) false q 0) at (elements-undotted (isSep Unix) q (bodyOf q 0) (from-good (isSep Unix) false q 0))
 
-relative-undotted : (q : List ℕ) → sepAt Unix q 0 ≡ false → undotted (valuesOf Unix q) ≡ segments (isSep Unix) false q
+relative-undotted : (q : List ℕ) → sepAt Unix q 0 ≡ false → undotted (valuesOf Unix q) ≡ partsOf q
 unfolding dirOf undotted
 relative-undotted q r = rw (values-plain q, r) (split (dotAt Unix q 0) (λ e. rw e) (λ e. rw e (segments-undotted q)))
 
 -- p, a separator where it wants one, and q
-ended-values : (p g : List ℕ) (y : ℕ) (q : List ℕ) → p ≡ g ++ (y ∷ []) → isSep Unix y ≡ true → valuesOf Unix (p ++ q) ≡ valuesOf Unix p ++ segments (isSep Unix) false q
+ended-values : (p g : List ℕ) (y : ℕ) (q : List ℕ) → p ≡ g ++ (y ∷ []) → isSep Unix y ≡ true → valuesOf Unix (p ++ q) ≡ valuesOf Unix p ++ partsOf q
 ended-values p g y q e h = rw e (values-behind g y q h)
 
-glued-values : (p q : List ℕ) → (length p ≡ 0 → ⊥) → valuesOf Unix (glued Unix p ++ q) ≡ valuesOf Unix p ++ segments (isSep Unix) false q
+glued-values : (p q : List ℕ) → (length p ≡ 0 → ⊥) → valuesOf Unix (glued Unix p ++ q) ≡ valuesOf Unix p ++ partsOf q
 glued-values p q h = ⊎-elim wanting ending (either (wants Unix p))
   where
-    wanting : wants Unix p ≡ true → valuesOf Unix (glued Unix p ++ q) ≡ valuesOf Unix p ++ segments (isSep Unix) false q
+    wanting : wants Unix p ≡ true → valuesOf Unix (glued Unix p ++ q) ≡ valuesOf Unix p ++ partsOf q
     wanting w = rw (glued-open Unix p w, append-assoc) (values-seam p 47 q h refl)
 
-    ending : wants Unix p ≡ false → valuesOf Unix (glued Unix p ++ q) ≡ valuesOf Unix p ++ segments (isSep Unix) false q
+    ending : wants Unix p ≡ false → valuesOf Unix (glued Unix p ++ q) ≡ valuesOf Unix p ++ partsOf q
     ending w =
         let d : drop (suc (length p - 1)) p ≡ [] = drop-of-length-le p {i = suc (length p - 1)} (omega arith) in
         let e : p ≡ take (length p - 1) p ++ (getD p (length p - 1) 0 ∷ []) = rw d at (split-at p (length p - 1) 0 (omega (arith, h))) in
         rw (glued-shut Unix p w) (ended-values p (take (length p - 1) p) (getD p (length p - 1) 0) q e (not-false _ (wants-last Unix p _ h refl ∙ w)))
 
-joined-segments : (p q : List ℕ) → (length p ≡ 0 → ⊥) → sepAt Unix q 0 ≡ false → valuesOf Unix (seamed Unix p q) ≡ valuesOf Unix p ++ segments (isSep Unix) false q
+joined-segments : (p q : List ℕ) → (length p ≡ 0 → ⊥) → sepAt Unix q 0 ≡ false → valuesOf Unix (seamed Unix p q) ≡ valuesOf Unix p ++ partsOf q
 joined-segments p q h r = rw (seamed-relative Unix p q r) (glued-values p q h)
 
 -- "A relative q joined to a nonempty p has p's components, then q's less a leading dot, by the lists of values."
@@ -138,7 +136,7 @@ module _ (s : List ℕ) (f : ℕ) (k : 0 < f) (l : f < length (listOf Unix s)) w
   rest-relative : sepAt Unix (remains s f) 0 ≡ false
   rest-relative = rw rest-is (start-clear s (left s f) (right s - left s f) (unix-clear s f k l) (omega (arith, unix-trail s f k l .low)))
 
-  rest-values : segments (isSep Unix) false (remains s f) ≡ drop f (valuesOf Unix s)
+  rest-values : partsOf (remains s f) ≡ drop f (valuesOf Unix s)
   unfolding valuesOf
   rest-values =
       rw rest-is (segments-trail (isSep Unix) false s (left s f) (right s) (unix-trail s f k l)

@@ -33,7 +33,7 @@ use Rattle.components.specs.List.{sepAt, dotAt, dirOf, dirLen, startOf, dirPart
 use Rattle.cursors.specs.Rest.{prefixKind, isPrefix}
 use Rattle.order.specs.Values.{Value, valued, bytesAt, valuesIn, valuesOf}
 use Rattle.order.specs.Heads.{values-append}
-use Rattle.laws.specs.Walks.{Stands, stands}
+use Rattle.laws.specs.Walks.{stands}
 
 -- ---- a body's values, by its bytes
 
@@ -140,13 +140,22 @@ module _ (k : Seps) where
   ahead-seam (x ∷ []) y w h e = ahead-two x y w ∙ rw e (split (eqb x 46) (λ f. rw f) (λ f. rw f)) ∙ sym (ahead-one x)
   ahead-seam (x ∷ z ∷ u) y w h e = ahead-two x z (u ++ y ∷ w) ∙ sym (ahead-two x z u)
 
--- ---- a Unix path
+-- ---- a Unix path: what stands ahead of its body, its elements from place i on, and the values of its segments
+
+abbrev pub topOf : List ℕ → Dir
+topOf s = dirOf Unix Nothing s 0
+
+abbrev pub bodyOf : List ℕ → ℕ → List Element
+bodyOf s i = from (isSep Unix) false s i
+
+abbrev pub partsOf : List ℕ → List Value
+partsOf s = segments (isSep Unix) false s
 
 -- the body is that from the path's start on: a leading separator or a leading dot gives no element
-body-from : (s : List ℕ) (d : Dir) → dirOf Unix Nothing s 0 ≡ d → from (isSep Unix) false s (0 + dirLen d) ≡ from (isSep Unix) false s 0 → from (isSep Unix) false s (0 + dirLen (dirOf Unix Nothing s 0)) ≡ from (isSep Unix) false s 0
+body-from : (s : List ℕ) (d : Dir) → topOf s ≡ d → bodyOf s (0 + dirLen d) ≡ bodyOf s 0 → bodyOf s (0 + dirLen (topOf s)) ≡ bodyOf s 0
 body-from s d e h = rw e h
 
-body-plain : (s : List ℕ) → from (isSep Unix) false s (0 + dirLen (dirOf Unix Nothing s 0)) ≡ from (isSep Unix) false s 0
+body-plain : (s : List ℕ) → bodyOf s (0 + dirLen (topOf s)) ≡ bodyOf s 0
 unfolding from rest lead sortBy
 body-plain [] = body-from [] Bare (ahead-none Unix) refl
 body-plain (x ∷ []) =
@@ -164,7 +173,7 @@ body-plain (x ∷ y ∷ s) =
     (λ g. body-from (x ∷ y ∷ s) Bare (ahead-two Unix x y s ∙ rw (e, f, g)) refl))
     (λ f. body-from (x ∷ y ∷ s) Bare (ahead-two Unix x y s ∙ rw (e, f)) refl))
 
-pub list-plain : (s : List ℕ) → listOf Unix s ≡ dirPart (dirOf Unix Nothing s 0) 0 ++ from (isSep Unix) false s 0
+pub list-plain : (s : List ℕ) → listOf Unix s ≡ dirPart (topOf s) 0 ++ bodyOf s 0
 unfolding listOf wholeOf headList bodyList startOf
 list-plain s = rw (body-plain s)
 
@@ -172,30 +181,30 @@ pub list-none : listOf Unix [] ≡ []
 unfolding from rest lead sortBy
 list-none = list-plain [] ∙ rw (ahead-none Unix)
 
-pub values-plain : (s : List ℕ) → valuesOf Unix s ≡ headed (dirOf Unix Nothing s 0) ++ segments (isSep Unix) false s
+pub values-plain : (s : List ℕ) → valuesOf Unix s ≡ headed (topOf s) ++ partsOf s
 unfolding valuesOf
 values-plain s =
-    rw (list-plain s, values-append s (dirPart (dirOf Unix Nothing s 0) 0) (from (isSep Unix) false s 0), head-values s (dirOf Unix Nothing s 0), from-values (isSep Unix) false s 0)
+    rw (list-plain s, values-append s (dirPart (topOf s) 0) (bodyOf s 0), head-values s (topOf s), from-values (isSep Unix) false s 0)
 
 -- behind a separator stand the values of the segments there
-pub values-seam : (u : List ℕ) (y : ℕ) (w : List ℕ) → (length u ≡ 0 → ⊥) → isSep Unix y ≡ true → valuesOf Unix (u ++ y ∷ w) ≡ valuesOf Unix u ++ segments (isSep Unix) false w
+pub values-seam : (u : List ℕ) (y : ℕ) (w : List ℕ) → (length u ≡ 0 → ⊥) → isSep Unix y ≡ true → valuesOf Unix (u ++ y ∷ w) ≡ valuesOf Unix u ++ partsOf w
 values-seam u y w h e =
     values-plain (u ++ y ∷ w)
     ∙ rw (ahead-seam Unix u y w h e, segments-seam (isSep Unix) false u y w e, values-plain u, append-assoc)
 
-values-root : (y : ℕ) (w : List ℕ) → isSep Unix y ≡ true → valuesOf Unix (y ∷ w) ≡ valued 2 [] ∷ segments (isSep Unix) false w
+values-root : (y : ℕ) (w : List ℕ) → isSep Unix y ≡ true → valuesOf Unix (y ∷ w) ≡ valued 2 [] ∷ partsOf w
 values-root y w e = values-plain (y ∷ w) ∙ rw (root w, segments-sep (isSep Unix) false y w e)
   where
-    root : (w : List ℕ) → dirOf Unix Nothing (y ∷ w) 0 ≡ Root
+    root : (w : List ℕ) → topOf (y ∷ w) ≡ Root
     root [] = ahead-one Unix y ∙ rw e
     root (z ∷ w) = ahead-two Unix y z w ∙ rw e
 
-dot-none : segments (isSep Unix) false (46 ∷ []) ≡ []
+dot-none : partsOf (46 ∷ []) ≡ []
 unfolding segments later lead sortBy
 dot-none = refl
 
 -- a path that ends in a separator, and another behind it
-pub values-behind : (g : List ℕ) (y : ℕ) (w : List ℕ) → isSep Unix y ≡ true → valuesOf Unix (g ++ (y ∷ []) ++ w) ≡ valuesOf Unix (g ++ (y ∷ [])) ++ segments (isSep Unix) false w
+pub values-behind : (g : List ℕ) (y : ℕ) (w : List ℕ) → isSep Unix y ≡ true → valuesOf Unix (g ++ (y ∷ []) ++ w) ≡ valuesOf Unix (g ++ (y ∷ [])) ++ partsOf w
 values-behind [] y w e = rw (values-root y w e, values-root y [] e, segments-none (isSep Unix) false)
 values-behind (x ∷ g) y w e =
     let h : length (x ∷ g) ≡ 0 → ⊥ = λ z. omega arith in
@@ -334,19 +343,19 @@ module _ (sep : ℕ → Bool) (v : Bool) (s : List ℕ) (h : List Element) (f : 
   behind-clear = rw (nth-behind h (from sep v s 0) f k) (clear-nth sep v s 0 (f - length h) behind-inside)
 
 module _ (s : List ℕ) (f : ℕ) (k : 0 < f) (l : f < length (listOf Unix s)) where
-  pub unix-from : drop f (listOf Unix s) ≡ from (isSep Unix) false s (startOr (nthOf (listOf Unix s) f))
-  unix-from = rw (list-plain s) (behind-from (isSep Unix) false s (dirPart (dirOf Unix Nothing s 0) 0) f (omega (arith, head-few (dirOf Unix Nothing s 0))) (rw (list-plain s) at l))
+  pub unix-from : drop f (listOf Unix s) ≡ bodyOf s (startOr (nthOf (listOf Unix s) f))
+  unix-from = rw (list-plain s) (behind-from (isSep Unix) false s (dirPart (topOf s) 0) f (omega (arith, head-few (topOf s))) (rw (list-plain s) at l))
 
   pub unix-clear : isSep Unix (getD s (startOr (nthOf (listOf Unix s) f)) 0) ≡ false
-  unix-clear = rw (list-plain s) (behind-clear (isSep Unix) false s (dirPart (dirOf Unix Nothing s 0) 0) f (omega (arith, head-few (dirOf Unix Nothing s 0))) (rw (list-plain s) at l))
+  unix-clear = rw (list-plain s) (behind-clear (isSep Unix) false s (dirPart (topOf s) 0) f (omega (arith, head-few (topOf s))) (rw (list-plain s) at l))
 
   -- the last element of the list is the last from element f on
   pub unix-trail : Trail (isSep Unix) false s (startOr (nthOf (listOf Unix s) f)) (endOr (nthBackOf (listOf Unix s) 0))
   unix-trail =
       let a : ℕ = startOr (nthOf (listOf Unix s) f) in
-      let n : 0 < length (from (isSep Unix) false s a) = omega (arith, ap length unix-from, length-drop f (listOf Unix s)) in
-      let e : listOf Unix s ≡ take f (listOf Unix s) ++ from (isSep Unix) false s a = rw unix-from at (sym (take-append-drop f (listOf Unix s))) in
-      let g : nthBackOf (listOf Unix s) 0 ≡ nthBackOf (from (isSep Unix) false s a) 0 = ap (λ (x : List Element). nthBackOf x 0) e ∙ back-behind (take f (listOf Unix s)) (from (isSep Unix) false s a) 0 n in
+      let n : 0 < length (bodyOf s a) = omega (arith, ap length unix-from, length-drop f (listOf Unix s)) in
+      let e : listOf Unix s ≡ take f (listOf Unix s) ++ bodyOf s a = rw unix-from at (sym (take-append-drop f (listOf Unix s))) in
+      let g : nthBackOf (listOf Unix s) 0 ≡ nthBackOf (bodyOf s a) 0 = ap (λ (x : List Element). nthBackOf x 0) e ∙ back-behind (take f (listOf Unix s)) (bodyOf s a) 0 n in
       rw g (trail (isSep Unix) false s a n)
 
 -- no element is a prefix
@@ -370,7 +379,7 @@ head-plain Implied m h = refl
 head-plain Dot m h = refl
 
 pub unix-plain : (s : List ℕ) → isPrefix (nthOf (listOf Unix s) 0) ≡ false
-unix-plain s = rw (list-plain s) (head-plain (dirOf Unix Nothing s 0) _ (goods-plain (isSep Unix) s _ (from-good (isSep Unix) false s 0)))
+unix-plain s = rw (list-plain s) (head-plain (topOf s) _ (goods-plain (isSep Unix) s _ (from-good (isSep Unix) false s 0)))
 
 -- ---- a path that is not empty has a component, and up to the end of its last it has all of them
 
@@ -390,7 +399,7 @@ bare-says true dot e = let z : _≡_ {A = ℕ} 0 1 = cc in absurd (omega arith)
 bare-says false true e = let z : _≡_ {A = ℕ} 0 1 = cc in absurd (omega arith)
 bare-says false false e = (refl, refl)
 
-bare-some : (s : List ℕ) → (length s ≡ 0 → ⊥) → dirOf Unix Nothing s 0 ≡ Bare → 0 < length (segments (isSep Unix) false s)
+bare-some : (s : List ℕ) → (length s ≡ 0 → ⊥) → topOf s ≡ Bare → 0 < length (partsOf s)
 unfolding segments lead
 bare-some [] h e = absurd (h refl)
 bare-some (x ∷ []) h e =
@@ -403,16 +412,16 @@ bare-some (x ∷ y ∷ s) h e =
     (λ f. rw (b .0, f) (sort-some (suc (suc (length (lead (isSep Unix) s)))) x y _ _ (λ z. omega arith) (λ _ z. omega arith)))
 
 pub values-some : (s : List ℕ) → (length s ≡ 0 → ⊥) → 0 < length (valuesOf Unix s)
-values-some s h = rw (values-plain s) (go (dirOf Unix Nothing s 0) refl)
+values-some s h = rw (values-plain s) (go (topOf s) refl)
   where
-    go : (d : Dir) → dirOf Unix Nothing s 0 ≡ d → 0 < length (headed d ++ segments (isSep Unix) false s)
+    go : (d : Dir) → topOf s ≡ d → 0 < length (headed d ++ partsOf s)
     go Bare e = bare-some s h e
     go Root e = omega arith
     go Implied e = omega arith
     go Dot e = omega arith
 
 -- a head's element is the path's first byte, and that byte alone has it
-ahead-first : (x : ℕ) (s : List ℕ) → (dot : Bool) × (dirOf Unix Nothing (x ∷ s) 0 ≡ dirBy (isSep Unix x) dot) × (dot ≡ true → x ≡ 46)
+ahead-first : (x : ℕ) (s : List ℕ) → (dot : Bool) × (topOf (x ∷ s) ≡ dirBy (isSep Unix x) dot) × (dot ≡ true → x ≡ 46)
 ahead-first x [] = (eqb x 46, ahead-one Unix x, eqb-true x 46)
 ahead-first x (y ∷ s) = (cond (eqb x 46) (isSep Unix y) false, ahead-two Unix x y s, λ h. split (eqb x 46) (λ f. eqb-true x 46 f) (λ f. absurd (false≢true (rw f at h))))
 
@@ -423,35 +432,34 @@ head-alone x s false true f g h = rw (g refl) (values-plain (46 ∷ []) ∙ rw (
 head-alone x s false false f g h = absurd (omega arith)
 
 -- up to the end of the last element stands all
-module _ (s : List ℕ) where
-  front-trail : (e : ℕ) → Trail (isSep Unix) false s 0 e → valuesOf Unix (take e s) ≡ valuesOf Unix s
-  front-trail e t = split (ltb e (length s)) inner outer
-    where
-      inner : ltb e (length s) ≡ true → valuesOf Unix (take e s) ≡ valuesOf Unix s
-      inner b =
-          let h : e < length s = ltb-true e (length s) b in
-          let n : length (take e s) ≡ 0 → ⊥ = λ z. omega (arith, length-take-le e s (t .high), t .low) in
-          sym (ap (valuesOf Unix) (split-at s e 0 h) ∙ values-seam (take e s) (getD s e 0) (drop (suc e) s) n (t .edge h) ∙ rw (trail-none (isSep Unix) false s 0 e t, append-nil))
+front-trail : (s : List ℕ) (e : ℕ) → Trail (isSep Unix) false s 0 e → valuesOf Unix (take e s) ≡ valuesOf Unix s
+front-trail s e t = split (ltb e (length s)) inner outer
+  where
+    inner : ltb e (length s) ≡ true → valuesOf Unix (take e s) ≡ valuesOf Unix s
+    inner b =
+        let h : e < length s = ltb-true e (length s) b in
+        let n : length (take e s) ≡ 0 → ⊥ = λ z. omega (arith, length-take-le e s (t .high), t .low) in
+        sym (ap (valuesOf Unix) (split-at s e 0 h) ∙ values-seam (take e s) (getD s e 0) (drop (suc e) s) n (t .edge h) ∙ rw (trail-none (isSep Unix) false s 0 e t, append-nil))
 
-      outer : ltb e (length s) ≡ false → valuesOf Unix (take e s) ≡ valuesOf Unix s
-      outer b = ap (valuesOf Unix) (take-all e s (ltb-false e (length s) b))
+    outer : ltb e (length s) ≡ false → valuesOf Unix (take e s) ≡ valuesOf Unix s
+    outer b = ap (valuesOf Unix) (take-all e s (ltb-false e (length s) b))
 
-front-head : (s : List ℕ) → from (isSep Unix) false s 0 ≡ [] → 0 < length (listOf Unix s) → valuesOf Unix (take (endOr (nthBackOf (listOf Unix s) 0)) s) ≡ valuesOf Unix s
+front-head : (s : List ℕ) → bodyOf s 0 ≡ [] → 0 < length (listOf Unix s) → valuesOf Unix (take (endOr (nthBackOf (listOf Unix s) 0)) s) ≡ valuesOf Unix s
 unfolding valuesIn
 front-head [] e h = rw take-nil
 front-head (x ∷ s) e h =
     let a = ahead-first x s in
-    let n : segments (isSep Unix) false (x ∷ s) ≡ [] = rw e at (sym (from-values (isSep Unix) false (x ∷ s) 0)) in
+    let n : partsOf (x ∷ s) ≡ [] = rw e at (sym (from-values (isSep Unix) false (x ∷ s) 0)) in
     let l : listOf Unix (x ∷ s) ≡ dirPart (dirBy (isSep Unix x) (a .0)) 0 = list-plain (x ∷ s) ∙ rw (e, a .1, append-nil) in
     let v : valuesOf Unix (x ∷ s) ≡ headed (dirBy (isSep Unix x) (a .0)) = values-plain (x ∷ s) ∙ rw (n, a .1, append-nil) in
     rw (l, v) (head-alone x s (isSep Unix x) (a .0) (λ z. z) (a .2) (rw l at h))
 
 pub values-front : (s : List ℕ) → 0 < length (listOf Unix s) → valuesOf Unix (take (endOr (nthBackOf (listOf Unix s) 0)) s) ≡ valuesOf Unix s
-values-front s h = go (from (isSep Unix) false s 0) refl
+values-front s h = go (bodyOf s 0) refl
   where
-    go : (m : List Element) → from (isSep Unix) false s 0 ≡ m → valuesOf Unix (take (endOr (nthBackOf (listOf Unix s) 0)) s) ≡ valuesOf Unix s
+    go : (m : List Element) → bodyOf s 0 ≡ m → valuesOf Unix (take (endOr (nthBackOf (listOf Unix s) 0)) s) ≡ valuesOf Unix s
     go [] e = front-head s e h
     go (x ∷ m) e =
-        let n : 0 < length (from (isSep Unix) false s 0) = rw e (omega arith) in
-        let g : nthBackOf (listOf Unix s) 0 ≡ nthBackOf (from (isSep Unix) false s 0) 0 = rw (list-plain s) (back-behind (dirPart (dirOf Unix Nothing s 0) 0) (from (isSep Unix) false s 0) 0 n) in
-        rw g (front-trail s (endOr (nthBackOf (from (isSep Unix) false s 0) 0)) (trail (isSep Unix) false s 0 n))
+        let n : 0 < length (bodyOf s 0) = rw e (omega arith) in
+        let g : nthBackOf (listOf Unix s) 0 ≡ nthBackOf (bodyOf s 0) 0 = rw (list-plain s) (back-behind (dirPart (topOf s) 0) (bodyOf s 0) 0 n) in
+        rw g (front-trail s (endOr (nthBackOf (bodyOf s 0) 0)) (trail (isSep Unix) false s 0 n))
