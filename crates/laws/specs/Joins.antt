@@ -1,4 +1,5 @@
--- What a Unix join does to the lists of two paths, by the lists of values. `seamed Unix p q` is the join of p and q.
+-- What a Unix join does to the lists of two paths, by the lists of values, and that it undoes a strip. `seamed Unix p q` is the join
+-- of p and q (`joined-unix` of crate joins).
 use Prim.Native.Nat.{ℕ, suc, _+_, _-_, _<_, _≤_}
 use native.Mathlib.Nat.{add-zero}
 use native.Mathlib.Omega.{arith}
@@ -16,12 +17,22 @@ use Rattle.octets.specs.declared.Seps.the-variants.{Unix}
 use Rattle.parts.specs.declared.Component.{Component}
 use Rattle.parts.specs.declared.Component.the-variants.{Prefix, RootDir, CurDir, ParentDir, Normal}
 use Rattle.parts.specs.declared.Element.{Element}
+use Rattle.parts.specs.declared.Item.{Item}
+use Rattle.parts.specs.declared.Item.the-variants.{Missing, Here}
 use Rattle.parts.specs.Elements.{nthOf, nthBackOf, startOr, endOr}
 use Rattle.parts.specs.Laws.{Bodily, Goods, from-good}
 use Rattle.components.specs.List.{sepAt, dotAt, dirOf, startOf, listOf}
 use Rattle.cursors.specs.declared.Span.{Span}
-use Rattle.cursors.specs.Rest.{span, leftEnd, emptyAt, dotted, behindDot, restOf}
+use Rattle.cursors.specs.Rest.{span, prefixKind, isPrefix as prefixItem, leftEnd, emptyAt, dotted, behindDot, restOf}
 use Rattle.order.specs.Values.{Value, bytesAt, valueOf, valueBy, valuesIn, valuesOf}
+use Rattle.order.specs.Order.{cmpValue}
+use Rattle.order.specs.Ordered.{each, value-exact}
+use Rattle.matches.specs.declared.Span.{Span as Part}
+use Rattle.matches.specs.declared.Stripped.the-variants.{Off, Rest}
+use Rattle.matches.specs.Match.{startsWith, startsOf}
+use Rattle.matches.specs.Strip.{isPrefix, isPrefixed, stripFrom, dotted as bareDisk, stripTo, stripRest, stripOf}
+use Rattle.joins.specs.Join.{joined}
+use Rattle.joins.specs.Laws.{joined-unix}
 use Rattle.seams.specs.Seam.{wants, glued, seamed}
 use Rattle.seams.specs.Laws.{either, wants-last, starts-nil, glued-open, glued-shut, seamed-relative, seamed-empty}
 use Rattle.laws.specs.Values.{segments-none, bodyOf, partsOf, from-values, segments-trail, values-plain, values-seam, values-behind, values-drop, values-some, values-front, list-none, unix-from, unix-clear, unix-trail, unix-plain}
@@ -71,8 +82,9 @@ glued-values p q h = ⊎-elim wanting ending (either (wants Unix p))
 joined-segments : (p q : List ℕ) → (length p ≡ 0 → ⊥) → sepAt Unix q 0 ≡ false → valuesOf Unix (seamed Unix p q) ≡ valuesOf Unix p ++ partsOf q
 joined-segments p q h r = rw (seamed-relative Unix p q r) (glued-values p q h)
 
--- "A relative q joined to a nonempty p has p's components, then q's less a leading dot, by the lists of values."
-pub joined-values : (p q : List ℕ) → (length p ≡ 0 → ⊥) → sepAt Unix q 0 ≡ false → valuesOf Unix (seamed Unix p q) ≡ valuesOf Unix p ++ undotted (valuesOf Unix q)
+-- "a relative q joined to a nonempty p has p's components, then q's less a leading dot, by the lists of values"
+pub joined-values : (p q : List ℕ) → (length p ≡ 0 → ⊥) → sepAt Unix q 0 ≡ false
+    → valuesOf Unix (seamed Unix p q) ≡ valuesOf Unix p ++ undotted (valuesOf Unix q)
 joined-values p q h r = rw (relative-undotted q r) (joined-segments p q h r)
 
 -- ---- what remains behind a base
@@ -81,7 +93,7 @@ joined-values p q h r = rw (relative-undotted q r) (joined-segments p q h r)
 abbrev pub spanned : List ℕ → Span → List ℕ
 spanned s w = bytesAt s (w .start) (w .end - w .start)
 
--- "Strip: the rest after the base's components", where those are f; no Unix path is dotted
+-- "Strip: the rest after the base's components", where the base has f; no Unix path is dotted
 abbrev pub remains : List ℕ → ℕ → List ℕ
 remains s f = spanned s (restOf false (listOf Unix s) f 0)
 
@@ -168,9 +180,66 @@ back-none (x ∷ s) =
     let h : 0 < length (listOf Unix (x ∷ s)) = list-some (x ∷ s) (λ z. omega arith) in
     rw (rest-all (x ∷ s) h) (values-front (x ∷ s) h)
 
--- "If a base can be stripped from a path, joining what remains back to it gives the path's own component list."
-pub stripped-back : (s t : List ℕ) → take (length (listOf Unix t)) (valuesOf Unix s) ≡ valuesOf Unix t → valuesOf Unix (seamed Unix t (remains s (length (listOf Unix t)))) ≡ valuesOf Unix s
+-- "if a base can be stripped from a path, joining what remains back to it gives the path's own component list": the components of the
+-- base t are the first of s
+pub stripped-back : (s t : List ℕ) → take (length (listOf Unix t)) (valuesOf Unix s) ≡ valuesOf Unix t
+    → valuesOf Unix (seamed Unix t (remains s (length (listOf Unix t)))) ≡ valuesOf Unix s
 stripped-back s [] e = rw (seamed-empty, list-none) (back-none s)
 stripped-back s (x ∷ t) e =
     let h : length (x ∷ t) ≡ 0 → ⊥ = λ z. omega arith in
     back-some s (x ∷ t) (length (listOf Unix (x ∷ t))) e h (list-some (x ∷ t) h)
+
+-- ---- what `strip` answers
+
+-- a list that starts with another has its values in front
+starts-take : (l m : List Value) → startsWith l m ≡ true → take (length m) l ≡ m
+unfolding startsWith
+starts-take l [] e = refl
+starts-take [] (v ∷ m) e = absurd (false≢true e)
+starts-take (u ∷ l) (v ∷ m) e =
+    each (cmpValue u v)
+    (λ x. absurd (false≢true (rw x at e)))
+    (λ x. rw (value-exact u v x, starts-take l m (rw x at e)))
+    (λ x. absurd (false≢true (rw x at e)))
+
+-- a path that starts with t has the components of t in front
+pub base-values : (s t : List ℕ) → startsOf Unix s t ≡ true → take (length (listOf Unix t)) (valuesOf Unix s) ≡ valuesOf Unix t
+unfolding startsOf
+base-values s t e = rw (← values-length t) (starts-take (valuesOf Unix s) (valuesOf Unix t) e)
+
+-- its view of what remains is the rest
+prefix-kind : (c : Component) → isPrefix c ≡ prefixKind c
+prefix-kind (Prefix p) = refl
+prefix-kind RootDir = refl
+prefix-kind CurDir = refl
+prefix-kind ParentDir = refl
+prefix-kind Normal = refl
+
+prefixed : (i : Item) → isPrefixed i ≡ prefixItem i
+prefixed Missing = refl
+prefixed (Here p) = prefix-kind (p .component)
+
+strip-left : (l : List Element) (f : ℕ) → f < length l → stripFrom l f ≡ leftEnd l f
+unfolding stripFrom leftEnd
+strip-left l f h = rw (lt-ltb f (length l) h, prefixed (nthOf l 0))
+
+strip-remains : (s : List ℕ) (f : ℕ) → bytesAt s (stripRest false (listOf Unix s) f .start) (stripRest false (listOf Unix s) f .len) ≡ remains s f
+unfolding stripTo
+strip-remains s f =
+    split (ltb f (length (listOf Unix s)))
+    (λ b. let h = ltb-true f (length (listOf Unix s)) b in rw (b, strip-left (listOf Unix s) f h, rest-some s f h))
+    (λ b. let n : stripFrom (listOf Unix s) f - stripFrom (listOf Unix s) f ≡ 0 = omega arith in
+    rw (b, n, rest-none s f (ltb-false f (length (listOf Unix s)) b)))
+
+rest-one : (v w : Part) → Rest v ≡ Rest w → v ≡ w
+rest-one v w e = cc
+
+-- the same sentence of what strip and join answer: w is the part of s that remains behind t
+pub strip-joins : (s t : List ℕ) (w : Part) → stripOf Unix s t ≡ Rest w
+    → valuesOf Unix (joined Unix t (bytesAt s (w .start) (w .len))) ≡ valuesOf Unix s
+unfolding stripOf bareDisk
+strip-joins s t w e =
+    split (startsOf Unix s t)
+    (λ b. let r : stripRest false (listOf Unix s) (length (listOf Unix t)) ≡ w = rest-one _ w (rw b at e) in
+    rw (← r, strip-remains s (length (listOf Unix t)), joined-unix) (stripped-back s t (base-values s t b)))
+    (λ b. let z : Off ≡ Rest w = rw b at e in let y : _≡_ {A = ℕ} 0 1 = cc in absurd (omega arith))

@@ -1,5 +1,6 @@
--- The values of a path by its bytes alone, and the laws that the theorems of joins rest on: a separator parts the values, and what
--- stands ahead of a body is told by the first two bytes.
+-- The values of a path by its bytes alone, and the laws that the theorems of joins rest on: a separator parts the values, what stands
+-- ahead of a body is told by the first two bytes, from an element on stands the body from its place on, and behind the last element
+-- stand no values.
 use Prim.Native.Nat.{ℕ, zero, suc, _+_, _-_, _<_, _≤_}
 use native.Mathlib.Nat.{not-suc-le-zero, add-zero}
 use native.Mathlib.Omega.{arith}
