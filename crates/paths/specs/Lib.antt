@@ -8,3 +8,5 @@ pub mod Absolute
 pub mod AbsoluteLaws
 pub mod Views
 pub mod ViewLaws
+pub mod Join
+pub mod JoinLaws

@@ -1,12 +1,14 @@
 // The public calls. Each takes the mode as a number and any bytes, and refuses what document 01 says is refused; none has
 // a `requires`. What a call promises is its definition in specs/, a chain of guards in front of what was asked for.
 mod absolutes;
+mod joining;
 mod steps;
 mod tests;
 mod view;
 
 pub use absolutes::absolute;
 use answers::Reply;
+pub use joining::join;
 use prefixes::Parsed;
 pub use steps::Cursor;
 pub use steps::Stepped;
