@@ -1,5 +1,6 @@
 -- Laws of the setters: one a way through each function.
-use Prim.Native.Nat.{ℕ, _+_, _*_, _^_, _<_, _≤_}
+use Prim.Native.Nat.{ℕ, _+_, _-_, _*_, _^_, _<_, _≤_}
+use native.Mathlib.Nat.{sub-zero}
 use mir.Syntax.{w64}
 use mir.Val.{Fits}
 use native.Mathlib.Omega.{arith}
@@ -74,8 +75,9 @@ module _ (k : Seps) (p q : List ℕ) (r : ℕ) (b : BaseAt k p r) where
   pub base-short : length p ≤ limit → length (take r p) ≤ limit
   base-short h = omega (arith, length-take-le r p (b .high), b .high)
 
-  pub set-is : (a : View) (x y : List ℕ) → Wrote (result (joined k (take r p) q)) a x y → Wrote (result (joined k (baseOf k p) q)) a x y
-  set-is a x y w = rw (b .is) at w
+  -- the part `&p[0..r]` is `take (r - 0) p`
+  pub set-is : (a : View) (x y : List ℕ) → Wrote (result (joined k (take (r - 0) p) q)) a x y → Wrote (result (joined k (baseOf k p) q)) a x y
+  set-is a x y w = rw (sub-zero, b .is) at w
 
 -- `holds_sep`
 module _ (sep : ℕ → Bool) (e : List ℕ) where
@@ -136,8 +138,8 @@ module _ (k : Seps) (p e : List ℕ) (b : Bool) (t : b ≡ holds (isSep k) e) wh
       pub stem-short : length p ≤ limit → length (take (v .start + v .len) p) ≤ limit
       stem-short h = omega (arith, length-take-le (v .start + v .len) p (s .inside), s .inside)
 
-      pub extension-set : (a : View) (x y : List ℕ) → Wrote (result (pointed (take (v .start + v .len) p) e)) a x y → Wrote (extended k p e) a x y
+      pub extension-set : (a : View) (x y : List ℕ) → Wrote (result (pointed (take (v .start + v .len - 0) p) e)) a x y → Wrote (extended k p e) a x y
       unfolding extended guard
-      extension-set a x y o = rw (← t, m, stem-of) o
+      extension-set a x y o = rw (← t, m, stem-of) (rw sub-zero at o)
 
 pub ruleset setting = (base-whole, base-parent, base-short, set-is, holds-start, holds-not, holds-here, holds-on, put-none, put-some, name-refused, stem-absent, stem-fits, stem-inside, stem-short, extension-set)

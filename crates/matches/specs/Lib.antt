@@ -1,0 +1,4 @@
+pub mod Match
+pub mod Strip
+pub mod Leaves
+pub mod Laws
