@@ -1,7 +1,7 @@
 -- What the leaves promise and the loops keep. Nothing here has to be believed: the public promises do not name it.
-use Prim.Native.Nat.{ℕ, _+_, _<_, _≤_}
+use Prim.Native.Nat.{ℕ, _+_, _≤_}
 use mathlib.Core.Path.{_≡_}
-use mathlib.Core.List.{List, [], _∷_, _++_}
+use mathlib.Core.List.{List, _++_}
 use mathlib.Core.Bool.{Bool, true, false, cond}
 use lib.ListN.{length, drop}
 use lib.Dec.{eqb}
@@ -20,6 +20,7 @@ use Rattle.parts.specs.Steps.{within}
 use Rattle.components.specs.declared.Dir.the-variants.{Bare, Dot as Here}
 use Rattle.components.specs.declared.Start.{Start}
 use Rattle.components.specs.List.{listOf}
+use Rattle.cursors.specs.Rest.{isPrefix, leftEnd, emptyAt, dotted}
 use Rattle.order.specs.declared.Heads.{Heads}
 use Rattle.order.specs.declared.Heads.the-variants.{Same, Apart, First, Second}
 use Rattle.order.specs.Values.{Value, prefixValue, valuesIn}
@@ -30,7 +31,6 @@ use Rattle.matches.specs.declared.Place.the-variants.{Off, At}
 use Rattle.matches.specs.declared.After.{After}
 use Rattle.matches.specs.declared.After.the-variants.{Off as Nowhere, Head, Body}
 use Rattle.matches.specs.Match.{same, startsWith, startsOf}
-use Rattle.matches.specs.Strip.{onlyPrefix, stripFrom, dotted}
 
 -- the first of two lists that meet so starts with the second
 abbrev pub isBase : Heads → Bool
@@ -71,14 +71,15 @@ headStart (Is p) e = e
 pub record AtHead (k : Seps) (s : List ℕ) (g : Start) (t : List ℕ) (a : ℕ) : Type 0 where
   pub starts : startsOf k s t ≡ true
   pub few : length (listOf k t) ≤ 1
-  pub is : a ≡ stripFrom (listOf k s) (length (listOf k t))
+  pub is : a ≡ leftEnd (listOf k s) (length (listOf k t))
+  pub spent : a ≡ emptyAt (listOf k s) (length (listOf k t))
   pub low : a ≤ g .at
 
 -- t leaves of s the body from x on
 pub record InBody (k : Seps) (s : List ℕ) (g : Start) (t : List ℕ) (x : ℕ) : Type 0 where
   pub starts : startsOf k s t ≡ true
   pub some : length (listOf k t) ≡ 0 → ⊥
-  pub beyond : onlyPrefix (listOf k s) (length (listOf k t)) ≡ false
+  pub beyond : length (listOf k t) ≡ 1 → isPrefix (nthOf (listOf k s) 0) ≡ false
   pub left : drop (length (listOf k t)) (listOf k s) ≡ from (isSep (g .seps)) (dots (g .seps)) s x
 
 abbrev pub AfterSays : Seps → List ℕ → Start → List ℕ → After → Type 0
@@ -91,10 +92,10 @@ pub record AfterAt (k : Seps) (s : List ℕ) (g : Start) (t : List ℕ) (r : Aft
 
 -- where the last component ends, or behind the dot of a lone Disk prefix
 unfoldable pub lastOf : Bool → List Element → ℕ
-lastOf d l = cond (cond d (eqb (length l) 1) false) (endOr (nthOf l 0) + 1) (endOr (nthBackOf l 0))
+lastOf d l = cond (cond d (eqb 1 (length l)) false) (endOr (nthOf l 0) + 1) (endOr (nthBackOf l 0))
 
 pub record LastEnd (k : Seps) (s : List ℕ) (g : Start) (r : ℕ) : Type 0 where
-  pub is : r ≡ lastOf (dotted k s) (listOf k s)
+  pub is : r ≡ lastOf (dotted g s) (listOf k s)
   pub low : g .at ≤ r
   pub all : Upto r (listOf k s)
 

@@ -1,5 +1,7 @@
 // Whether a path starts or ends with another, by components, and what remains of it behind the other. Each call is one walk
 // over both paths by places: heads first and then bodies, or for the end bodies first and from the back.
+use answers::Reply;
+use answers::View;
 use components::Start;
 use octets::Seps;
 use order::Heads;
@@ -8,14 +10,16 @@ use parts::Kind;
 use parts::Piece;
 use prefixes::Parsed;
 ghost use mathlib.Core.Path.{_≡_};
-ghost use Prim.Native.Nat.{ℕ, _+_, _<_, _≤_};
+ghost use Prim.Native.Nat.{_+_, _≤_};
 ghost use lib.ListN.{length};
 ghost use Rattle.prefixes.specs.Prefix.{parsedFigures};
 ghost use Rattle.prefixes.specs.Leaves.{NamesIn};
 ghost use Rattle.components.specs.Leaves.{OpenAt};
+ghost use Rattle.answers.specs.Reply.{refusedView};
+ghost use Rattle.answers.specs.Outcome.{told};
 ghost use Rattle.order.specs.Leaves.{headValues};
 ghost use Rattle.matches.specs.Match.{startsOf, endsWith, endsOf};
-ghost use Rattle.matches.specs.Strip.{diskIn, stripOf};
+ghost use Rattle.matches.specs.Strip.{stripOf};
 ghost use Rattle.matches.specs.Leaves.{isDot, headStart, lonely, BehindAt, AfterAt, LastEnd, Begun, prefixless, frontOf, samePrefix};
 
 // Where a base ends in a path's body: it is no base of it, or at a place.
@@ -30,17 +34,6 @@ pub enum After {
     Off,
     Head(usize),
     Body(usize),
-}
-
-// A part of a path.
-pub struct Span {
-    pub start: usize,
-    pub len: usize,
-}
-
-pub enum Stripped {
-    Off,
-    Rest(Span),
 }
 
 // Whether the parts of s from i on start with those of t from j on, and where they go on behind them.
@@ -161,14 +154,7 @@ pub fn starts_with(k: Seps, s: &[u8], t: &[u8]) -> bool
     }
 }
 
-fn is_disk(p: Parsed) -> bool
-    ensures { λ r. ⌜ r ≡ diskIn p ⌝ }
-{
-    let f = prefixes::figures_of(p);
-    f.kind == 6
-}
-
-// Where the last component of s ends, or behind a dot that belongs to none: `C:.`.
+// Where the last component of s, whose head is g, ends; or behind a dot that belongs to none: `C:.`.
 fn last_end(k: Seps, s: &[u8], g: Start) -> usize
     requires { ⌜ OpenAt k (now s) g ⌝ }
     ensures { λ r. ⌜ LastEnd k (now (s .entry)) g r ⌝ }
@@ -178,12 +164,8 @@ fn last_end(k: Seps, s: &[u8], g: Start) -> usize
     let p = parts::last(l, s, at, s.len());
     match p {
         Piece::Nothing => {
-            let d = g.prefix;
-            let e = g.end;
-            if is_disk(d) {
-                if components::dot_at(k, s, e) {
-                    return e + 1;
-                }
+            if cursors::is_dotted(g, s) {
+                return at + 1;
             }
             at
         }
@@ -192,30 +174,36 @@ fn last_end(k: Seps, s: &[u8], g: Start) -> usize
 }
 
 // What remains of s behind t.
-pub fn strip_prefix(k: Seps, s: &[u8], t: &[u8]) -> Stripped
-    ensures { λ r. ⌜ r ≡ stripOf k (now (s .entry)) (now (t .entry)) ⌝ }
+pub fn strip_prefix(k: Seps, s: &[u8], t: &[u8]) -> View
+    ensures { λ r. ⌜ r ≡ told refusedView (stripOf k (now (s .entry)) (now (t .entry))) ⌝ }
 {
     let g = components::begin(k, s);
     let a = follow(k, s, g, t);
     match a {
-        After::Off => Stripped::Off,
+        After::Off => answers::refuse_view(Reply::Absent),
         After::Head(start) => {
             let e = last_end(k, s, g);
-            Stripped::Rest(Span {
+            View {
+                reply: Reply::Done,
                 start,
                 len: e - start,
-            })
+            }
         }
         After::Body(x) => {
             let e = last_end(k, s, g);
             let l = g.seps;
             let p = parts::first(l, s, x);
             match p {
-                Piece::Nothing => Stripped::Rest(Span { start: e, len: 0 }),
-                Piece::Found(q) => Stripped::Rest(Span {
+                Piece::Nothing => View {
+                    reply: Reply::Done,
+                    start: e,
+                    len: 0,
+                },
+                Piece::Found(q) => View {
+                    reply: Reply::Done,
                     start: q.start,
                     len: e - q.start,
-                }),
+                },
             }
         }
     }

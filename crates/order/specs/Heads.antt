@@ -2,12 +2,12 @@
 -- place in the other path.
 use Prim.Native.Nat.{ℕ, suc, _+_, _-_, _<_, _≤_}
 use native.Mathlib.Omega.{arith}
-use mathlib.Core.Path.{_≡_, refl, sym, ap, _∙_}
-use mathlib.Core.List.{List, [], _∷_, _++_, map, map-append}
-use mathlib.Core.Bool.{Bool, true, false, cond, false≢true}
-use lib.ListN.{length, getD, drop}
-use lib.Dec.{eqb, ltb}
-use borrow.Author.Tests.{eq-eqb, ne-eqb, eqb-true, eqb-false, lt-ltb}
+use mathlib.Core.Path.{_≡_, refl, sym, _∙_}
+use mathlib.Core.List.{List, [], _∷_, _++_, map-append}
+use mathlib.Core.Bool.{Bool, true, false, false≢true}
+use lib.ListN.{length, drop}
+use lib.Dec.{eqb}
+use borrow.Author.Tests.{ne-eqb, eqb-true}
 use Rattle.octets.specs.Class.{isSep}
 use Rattle.octets.specs.Laws.{split}
 use Rattle.octets.specs.Segment.{lead}
@@ -16,29 +16,26 @@ use Rattle.prefixes.specs.declared.Prefix.{Prefix}
 use Rattle.prefixes.specs.declared.Prefix.the-variants.{Verbatim, VerbatimUnc, VerbatimDisk, DeviceNs, Unc, Disk}
 use Rattle.prefixes.specs.declared.Parsed.{Parsed}
 use Rattle.prefixes.specs.declared.Parsed.the-variants.{Nothing, Is}
-use Rattle.prefixes.specs.Prefix.{prefixIn, endOfPrefix, figuresOf, parsedFigures}
-use Rattle.parts.specs.declared.Component.{Component}
-use Rattle.parts.specs.declared.Component.the-variants.{Prefix as Prefixed, RootDir, CurDir, ParentDir, Normal}
+use Rattle.prefixes.specs.Prefix.{prefixIn, endOfPrefix, figuresOf}
 use Rattle.parts.specs.declared.Element.{Element}
-use Rattle.parts.specs.declared.Kind.{Kind}
 use Rattle.parts.specs.declared.Kind.the-variants.{Dot as LoneDot, DotDot, Name}
 use Rattle.parts.specs.declared.Sort.{Sort}
 use Rattle.parts.specs.declared.Sort.the-variants.{Skip, Is as Sorted}
-use Rattle.parts.specs.Body.{componentOf, dots, sortBy, sortOf, put, rest, from}
+use Rattle.parts.specs.Body.{dots, sortBy, sortOf, put, rest, from}
 use Rattle.components.specs.declared.Dir.{Dir}
 use Rattle.components.specs.declared.Dir.the-variants.{Bare, Root, Implied, Dot}
 use Rattle.components.specs.declared.Start.{Start}
-use Rattle.components.specs.List.{sepAt, dotAt, prefixDir, behindPrefix, dirOf, dirLen, startOf, prefixPart, dirPart, headList, bodyList, wholeOf, listOf}
+use Rattle.components.specs.List.{sepAt, dotAt, prefixDir, dirOf, startOf, prefixPart, dirPart, headList, bodyList, wholeOf}
 use Rattle.components.specs.Leaves.{OpenAt}
 use Rattle.components.specs.Laws.{sep-in, dot-sep, whole-list}
 use Rattle.order.specs.declared.Ordering.{Ordering}
-use Rattle.order.specs.declared.Ordering.the-variants.{Less, Equal, Greater}
+use Rattle.order.specs.declared.Ordering.the-variants.{Less, Greater}
 use Rattle.order.specs.declared.Heads.{Heads}
 use Rattle.order.specs.declared.Heads.the-variants.{Same, Apart, First, Second}
 use Rattle.order.specs.Values.{Value, valued, prefixValue, valueOf, valuesIn, valuesOf}
-use Rattle.order.specs.Order.{andThen, cmpNat, lexical, cmpValue, cmpValues}
-use Rattle.order.specs.Ordered.{each, turned, Ordered, itself, value-ordered, lists-ordered, nat-less, nat-more}
-use Rattle.order.specs.Leaves.{dirRank, dirValues, headValues, bodyValues, isNil, meetThen, meet, orderOf}
+use Rattle.order.specs.Order.{lexical, cmpValue, cmpValues}
+use Rattle.order.specs.Ordered.{each, itself, value-ordered, nat-less, nat-more}
+use Rattle.order.specs.Leaves.{dirRank, dirValues, headValues, bodyValues, isNil, meet, orderOf}
 
 -- ---- the values of a whole list
 pub values-append : (s : List ℕ) (l m : List Element) → valuesIn s (l ++ m) ≡ valuesIn s l ++ valuesIn s m

@@ -1,26 +1,25 @@
 -- Laws of the comparisons: one a way through each function, and what they rest on.
-use Prim.Native.Nat.{ℕ, suc, _+_, _-_, _*_, _^_, _<_, _≤_}
+use Prim.Native.Nat.{ℕ, suc, _+_, _-_, _<_, _≤_}
 use native.Mathlib.Omega.{arith}
 use native.Mathlib.Numerals.{add-one}
 use native.Mathlib.Nat.{add-sub-cancel-left}
 use mathlib.Core.Path.{_≡_, refl, sym, ap, _∙_}
 use mathlib.Core.List.{List, [], _∷_, _++_}
-use mathlib.Core.Bool.{Bool, true, false, cond, false≢true}
+use mathlib.Core.Bool.{Bool, true, false, false≢true}
 use mathlib.Core.Logic.{⊎-elim, inl, inr}
 use lib.ListN.{length, getD, take, drop, drop-of-length-le, length-drop, take-append-drop}
 use lib.Seq.{take-suc, drop-cons, length-take-le, take-take, take-length, getD-take, take-append-le, drop-append-le}
 use lib.Dec.{eqb}
-use borrow.Author.Tests.{eq-eqb, ne-eqb, lt-ltb}
+use borrow.Author.Tests.{ne-eqb}
 use Rattle.octets.specs.Class.{isSep}
 use Rattle.octets.specs.Laws.{split}
-use Rattle.octets.specs.Segment.{lead}
 use Rattle.octets.specs.declared.Seps.{Seps}
 use Rattle.octets.specs.declared.Seps.the-variants.{Unix, Windows, Verbatim}
 use Rattle.prefixes.specs.declared.Figures.{Figures}
 use Rattle.prefixes.specs.declared.Prefix.{Prefix}
 use Rattle.prefixes.specs.declared.Parsed.{Parsed}
 use Rattle.prefixes.specs.declared.Parsed.the-variants.{Nothing as Without, Is}
-use Rattle.prefixes.specs.Prefix.{prefixIn, figuresOf, parsedFigures}
+use Rattle.prefixes.specs.Prefix.{figuresOf, parsedFigures}
 use Rattle.prefixes.specs.Leaves.{NamesIn}
 use Rattle.prefixes.specs.Laws.{names-within}
 use Rattle.parts.specs.declared.Component.{Component}
@@ -31,12 +30,10 @@ use Rattle.parts.specs.declared.Kind.the-variants.{Dot as LoneDot, DotDot, Name
 use Rattle.parts.specs.declared.Part.{Part}
 use Rattle.parts.specs.declared.Piece.{Piece}
 use Rattle.parts.specs.declared.Piece.the-variants.{Nothing, Found}
-use Rattle.parts.specs.declared.Sort.{Sort}
-use Rattle.parts.specs.declared.Sort.the-variants.{Skip, Is as Sorted}
-use Rattle.parts.specs.Body.{componentOf, dots, sortOf, put, rest, from}
+use Rattle.parts.specs.Body.{componentOf, dots, from}
 use Rattle.parts.specs.Elements.{Upto}
 use Rattle.parts.specs.Steps.{lift, FirstAt, within}
-use Rattle.parts.specs.Laws.{first-none, first-found, from-upto, cut}
+use Rattle.parts.specs.Laws.{first-none, first-found, from-upto, Bodily, Goods, from-good, cut}
 use Rattle.components.specs.declared.Dir.{Dir}
 use Rattle.components.specs.declared.Dir.the-variants.{Bare, Root, Implied, Dot}
 use Rattle.components.specs.declared.Start.{Start}
@@ -46,7 +43,7 @@ use Rattle.order.specs.declared.Ordering.{Ordering}
 use Rattle.order.specs.declared.Ordering.the-variants.{Less, Equal, Greater}
 use Rattle.order.specs.declared.Heads.{Heads}
 use Rattle.order.specs.declared.Heads.the-variants.{Same, Apart, First, Second}
-use Rattle.order.specs.Values.{Value, valued, bytesAt, prefixValue, valueBy, valueOf, valuesIn, valuesOf}
+use Rattle.order.specs.Values.{valued, bytesAt, prefixValue, valueBy, valueOf, valuesIn, valuesOf}
 use Rattle.order.specs.Order.{andThen, cmpNat, lexical, cmpBytes, cmpValue, cmpValues, compareOf}
 use Rattle.order.specs.Ordered.{each, itself, nat-ordered, value-ordered, nat-less, nat-more, nat-same, lists-skip}
 use Rattle.order.specs.Leaves.{Least, Differ, cmpFrom, rankOf, named, dirRank, dirValues, headValues, bodyValues, isNil, meetThen, meet, orderOf, meetFirst, meetSecond, sepsNumber, SeamAt, SkipAt}
@@ -390,38 +387,6 @@ module _ (k h : Seps) (s t : List ℕ) (x y : ℕ) (p q : Piece) (r : Ordering) 
 pub ruleset bodies = (end-here, end-not, walk-end, walk-less, walk-more, walk-on, walk-part-less, walk-part-more)
 
 -- ---- what two bodies have in common
--- no element of a body is a prefix
-abbrev plain : Component → Bool
-plain (Prefixed p) = false
-plain RootDir = true
-plain CurDir = true
-plain ParentDir = true
-plain Normal = true
-
-unfoldable Plain : List Element → Type 0
-Plain [] = Unit
-Plain (e ∷ l) = (plain (e .component) ≡ true) × Plain l
-
-module _ (sep : ℕ → Bool) (v : Bool) where
-  put-plain : (q : Sort) (i n : ℕ) (l : List Element) → Plain l → Plain (put q i n l)
-  unfolding Plain
-  put-plain Skip i n l u = u
-  put-plain (Sorted LoneDot) i n l u = (refl, u)
-  put-plain (Sorted DotDot) i n l u = (refl, u)
-  put-plain (Sorted Name) i n l u = (refl, u)
-
-  rest-plain : (i : ℕ) (xs : List ℕ) → Plain (rest sep v i xs)
-  unfolding rest Plain
-  rest-plain i [] = tt
-  rest-plain i (x ∷ xs) =
-      split (sep x)
-      (λ e. rw e (put-plain (sortOf v (lead sep xs)) (suc i) (length (lead sep xs)) _ (rest-plain (suc i) xs)))
-      (λ e. rw e (rest-plain (suc i) xs))
-
-  from-plain : (s : List ℕ) (i : ℕ) → Plain (from sep v s i)
-  unfolding from
-  from-plain s i = put-plain (sortOf v (lead sep (drop i s))) i (length (lead sep (drop i s))) _ (rest-plain i (drop i s))
-
 -- what ends before place j is told by the bytes before it
 module _ (s : List ℕ) (j : ℕ) (l : j ≤ length s) where
   bytes-front : (i n : ℕ) → i + n ≤ j → bytesAt s i n ≡ bytesAt (take j s) i n
@@ -430,17 +395,17 @@ module _ (s : List ℕ) (j : ℕ) (l : j ≤ length s) where
       ap (λ (x : List ℕ). take n (drop i x)) (sym (take-append-drop j s))
       ∙ rw (drop-append-le i (take j s) (drop j s) (omega arith)) (take-append-le n (drop i (take j s)) (drop j s) (omega (arith, length-drop i (take j s))))
 
-  value-front : (c : Component) (i n : ℕ) → i + n ≤ j → plain c ≡ true → valueBy s c i n ≡ valueBy (take j s) c i n
-  value-front (Prefixed p) i n h e = absurd (false≢true e)
-  value-front RootDir i n h e = refl
-  value-front CurDir i n h e = refl
-  value-front ParentDir i n h e = refl
-  value-front Normal i n h e = rw (bytes-front i n h)
+  value-front : (v : Bool) (c : Component) (i n : ℕ) → i + n ≤ j → Bodily v c → valueBy s c i n ≡ valueBy (take j s) c i n
+  value-front v (Prefixed p) i n h e = absurd e
+  value-front v RootDir i n h e = absurd e
+  value-front v CurDir i n h e = refl
+  value-front v ParentDir i n h e = refl
+  value-front v Normal i n h e = rw (bytes-front i n h)
 
-  values-front : (m : List Element) → Upto j m → Plain m → valuesIn s m ≡ valuesIn (take j s) m
-  unfolding valuesIn Upto Plain
-  values-front [] u w = refl
-  values-front (e ∷ m) u w = rw (value-front (e .component) (e .start) (e .len) (u .0) (w .0), values-front m (u .1) (w .1))
+  values-front : (sep : ℕ → Bool) (v : Bool) (w : List ℕ) (m : List Element) → Upto j m → Goods sep v w m → valuesIn s m ≡ valuesIn (take j s) m
+  unfolding valuesIn Upto Goods
+  values-front sep v w [] u g = refl
+  values-front sep v w (e ∷ m) u g = rw (value-front v (e .component) (e .start) (e .len) (u .0) (g .0 .bodily), values-front sep v w m (u .1) (g .1))
 
 -- `seam`
 module _ (sep : ℕ → Bool) (s : List ℕ) (lo hi i : ℕ) where
@@ -499,8 +464,10 @@ module _ (k : Seps) (s t : List ℕ) (i n r : ℕ) (d : Differ s t n) (x : i < r
 
   shared-alike : valuesIn s shared ≡ valuesIn t shared
   shared-alike =
-      let u = from-plain (isSep k) (dots k) (take (r - 1) s) i in
-      values-front s (r - 1) front-long shared shared-upto u ∙ ap (λ (w : List ℕ). valuesIn w shared) fronts ∙ sym (values-front t (r - 1) front-also shared shared-upto u)
+      let u = from-good (isSep k) (dots k) (take (r - 1) s) i in
+      values-front s (r - 1) front-long (isSep k) (dots k) (take (r - 1) s) shared shared-upto u
+      ∙ ap (λ (w : List ℕ). valuesIn w shared) fronts
+      ∙ sym (values-front t (r - 1) front-also (isSep k) (dots k) (take (r - 1) s) shared shared-upto u)
 
   skip-seam : SkipAt k s i k t i (r - i)
   skip-seam =

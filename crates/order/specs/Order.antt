@@ -43,3 +43,9 @@ cmpValues l m = lexical cmpValue l m
 
 unfoldable pub compareOf : Seps → List ℕ → List ℕ → Ordering
 compareOf k s t = cmpValues (valuesOf k s) (valuesOf k t)
+
+-- an order as a number: 0 where the first path comes first, 1 where they are equal, 2 where the second comes first
+abbrev pub orderNumber : Ordering → ℕ
+orderNumber Less = 0
+orderNumber Equal = 1
+orderNumber Greater = 2

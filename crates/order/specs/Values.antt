@@ -1,6 +1,6 @@
 -- What of a path's elements is compared. Document 01, "Views over the list".
 use Prim.Native.Nat.{ℕ}
-use mathlib.Core.List.{List, [], _∷_, map}
+use mathlib.Core.List.{List, [], map}
 use lib.ListN.{take, drop}
 use Rattle.octets.specs.declared.Seps.{Seps}
 use Rattle.prefixes.specs.declared.Figures.{Figures}

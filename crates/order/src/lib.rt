@@ -9,14 +9,14 @@ use parts::Piece;
 use prefixes::Figures;
 use prefixes::Parsed;
 ghost use mathlib.Core.Path.{_≡_};
-ghost use Prim.Native.Nat.{ℕ, _+_, _<_, _≤_};
+ghost use Prim.Native.Nat.{_+_, _<_, _≤_};
 ghost use lib.ListN.{length};
 ghost use Rattle.octets.specs.Class.{isSep};
 ghost use Rattle.prefixes.specs.Prefix.{parsedFigures};
 ghost use Rattle.prefixes.specs.Leaves.{NamesIn};
 ghost use Rattle.parts.specs.Steps.{lift};
 ghost use Rattle.order.specs.Values.{bytesAt, prefixValue, valueOf};
-ghost use Rattle.order.specs.Order.{andThen, cmpBytes, cmpValue, cmpValues, compareOf};
+ghost use Rattle.order.specs.Order.{andThen, cmpBytes, cmpValue, cmpValues, compareOf, orderNumber};
 ghost use Rattle.order.specs.Leaves.{Least, Differ, rankOf, named, dirRank, dirValues, headValues, bodyValues, isNil, meetThen, meet, meetFirst, meetSecond, sepsNumber, SeamAt, SkipAt};
 
 pub enum Ordering {
@@ -31,6 +31,17 @@ pub enum Heads {
     Apart(Ordering),
     First,
     Second,
+}
+
+// An order as a number, from 0: the first path comes first, both are equal, the second comes first.
+pub fn number(o: Ordering) -> usize
+    ensures { λ r. ⌜ r ≡ orderNumber o ⌝ }
+{
+    match o {
+        Ordering::Less => 0,
+        Ordering::Equal => 1,
+        Ordering::Greater => 2,
+    }
 }
 
 fn least(a: usize, b: usize) -> usize

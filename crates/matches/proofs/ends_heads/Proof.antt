@@ -1,5 +1,5 @@
 use borrow.Author.Needs.{needs}
-use Rattle.matches.specs.Laws.{endings}
+use Rattle.matches.specs.EndLaws.{endings}
 use Rattle.matches.proofs.ends_heads.Statement.{statement}
 use Rattle.matches.proofs.ends_heads.Tie as tie
 

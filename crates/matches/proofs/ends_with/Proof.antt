@@ -1,5 +1,5 @@
 use borrow.Author.Needs.{needs}
-use Rattle.matches.specs.Laws.{backs}
+use Rattle.matches.specs.EndLaws.{backs}
 use Rattle.matches.proofs.ends_with.Statement.{statement}
 use Rattle.matches.proofs.ends_with.Tie as tie
 

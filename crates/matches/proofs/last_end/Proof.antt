@@ -1,5 +1,5 @@
 use borrow.Author.Needs.{needs}
-use Rattle.matches.specs.Laws.{lasts}
+use Rattle.matches.specs.StripLaws.{lasts}
 use Rattle.matches.proofs.last_end.Statement.{statement}
 use Rattle.matches.proofs.last_end.Tie as tie
 
@@ -10,8 +10,6 @@ last-end-spec =
     (λ c κs. search (needs, lasts))
     (λ c. search (needs, lasts))
     (λ c κs. search (needs, lasts))
-    (λ c κs. search (needs, lasts))
-    (λ c. search (needs, lasts))
     (λ c. search (needs, lasts))
     (λ c. search (needs, lasts))
     (λ c. search (needs, lasts))

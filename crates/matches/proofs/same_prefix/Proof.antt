@@ -1,5 +1,5 @@
 use borrow.Author.Needs.{needs}
-use Rattle.matches.specs.Laws.{endings}
+use Rattle.matches.specs.EndLaws.{endings}
 use Rattle.order.specs.Laws.{headings}
 use Rattle.matches.proofs.same_prefix.Statement.{statement}
 use Rattle.matches.proofs.same_prefix.Tie as tie

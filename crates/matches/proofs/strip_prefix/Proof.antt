@@ -1,5 +1,5 @@
 use borrow.Author.Needs.{needs}
-use Rattle.matches.specs.Laws.{strips}
+use Rattle.matches.specs.StripLaws.{strips}
 use Rattle.parts.specs.Laws.{walks}
 use Rattle.matches.proofs.strip_prefix.Statement.{statement}
 use Rattle.matches.proofs.strip_prefix.Tie as tie
@@ -11,6 +11,7 @@ strip-prefix-spec =
     (λ c κs. search (needs, strips, walks))
     (λ c κs. search (needs, strips, walks))
     (λ c. search (needs, strips, walks))
+    (λ c κs. search (needs, strips, walks))
     (λ c. search (needs, strips, walks))
     (λ c κs. search (needs, strips, walks))
     (λ c. search (needs, strips, walks))

@@ -1,5 +1,5 @@
 use borrow.Author.Needs.{needs}
-use Rattle.matches.specs.Laws.{backs}
+use Rattle.matches.specs.EndLaws.{backs}
 use Rattle.parts.specs.Laws.{walks}
 use Prim.Native.Nat.{_≤_}
 use mathlib.Core.Path.{_≡_}
