@@ -14,23 +14,22 @@ use borrow.Author.Tests.{not-false, ne-eqb, lt-ltb, le-ltb, ltb-true, ltb-false}
 use Rattle.octets.specs.Class.{isSep}
 use Rattle.octets.specs.Laws.{split}
 use Rattle.octets.specs.declared.Seps.the-variants.{Unix}
+use Rattle.answers.specs.declared.Reply.the-variants.{Absent}
+use Rattle.answers.specs.declared.View.{View}
+use Rattle.answers.specs.Outcome.{Outcome, refuse, result, guard}
 use Rattle.parts.specs.declared.Component.{Component}
 use Rattle.parts.specs.declared.Component.the-variants.{Prefix, RootDir, CurDir, ParentDir, Normal}
 use Rattle.parts.specs.declared.Element.{Element}
-use Rattle.parts.specs.declared.Item.{Item}
-use Rattle.parts.specs.declared.Item.the-variants.{Missing, Here}
 use Rattle.parts.specs.Elements.{nthOf, nthBackOf, startOr, endOr}
 use Rattle.parts.specs.Laws.{Bodily, Goods, from-good}
 use Rattle.components.specs.List.{sepAt, dotAt, dirOf, startOf, listOf}
 use Rattle.cursors.specs.declared.Span.{Span}
-use Rattle.cursors.specs.Rest.{span, prefixKind, isPrefix as prefixItem, leftEnd, emptyAt, dotted, behindDot, restOf}
+use Rattle.cursors.specs.Rest.{span, viewOf, leftEnd, emptyAt, dotted, behindDot, restOf}
 use Rattle.order.specs.Values.{Value, bytesAt, valueOf, valueBy, valuesIn, valuesOf}
 use Rattle.order.specs.Order.{cmpValue}
 use Rattle.order.specs.Ordered.{each, value-exact}
-use Rattle.matches.specs.declared.Span.{Span as Part}
-use Rattle.matches.specs.declared.Stripped.the-variants.{Off, Rest}
 use Rattle.matches.specs.Match.{startsWith, startsOf}
-use Rattle.matches.specs.Strip.{isPrefix, isPrefixed, stripFrom, dotted as bareDisk, stripTo, stripRest, stripOf}
+use Rattle.matches.specs.Strip.{stripOf}
 use Rattle.joins.specs.Join.{joined}
 use Rattle.joins.specs.Laws.{joined-unix}
 use Rattle.seams.specs.Seam.{wants, glued, seamed}
@@ -207,39 +206,15 @@ pub base-values : (s t : List ℕ) → startsOf Unix s t ≡ true → take (leng
 unfolding startsOf
 base-values s t e = rw (← values-length t) (starts-take (valuesOf Unix s) (valuesOf Unix t) e)
 
--- its view of what remains is the rest
-prefix-kind : (c : Component) → isPrefix c ≡ prefixKind c
-prefix-kind (Prefix p) = refl
-prefix-kind RootDir = refl
-prefix-kind CurDir = refl
-prefix-kind ParentDir = refl
-prefix-kind Normal = refl
+result-one : (u v : View) → result u ≡ result v → u ≡ v
+result-one u v e = cc
 
-prefixed : (i : Item) → isPrefixed i ≡ prefixItem i
-prefixed Missing = refl
-prefixed (Here p) = prefix-kind (p .component)
-
-strip-left : (l : List Element) (f : ℕ) → f < length l → stripFrom l f ≡ leftEnd l f
-unfolding stripFrom leftEnd
-strip-left l f h = rw (lt-ltb f (length l) h, prefixed (nthOf l 0))
-
-strip-remains : (s : List ℕ) (f : ℕ) → bytesAt s (stripRest false (listOf Unix s) f .start) (stripRest false (listOf Unix s) f .len) ≡ remains s f
-unfolding stripTo
-strip-remains s f =
-    split (ltb f (length (listOf Unix s)))
-    (λ b. let h = ltb-true f (length (listOf Unix s)) b in rw (b, strip-left (listOf Unix s) f h, rest-some s f h))
-    (λ b. let n : stripFrom (listOf Unix s) f - stripFrom (listOf Unix s) f ≡ 0 = omega arith in
-    rw (b, n, rest-none s f (ltb-false f (length (listOf Unix s)) b)))
-
-rest-one : (v w : Part) → Rest v ≡ Rest w → v ≡ w
-rest-one v w e = cc
-
--- the same sentence of what strip and join answer: w is the part of s that remains behind t
-pub strip-joins : (s t : List ℕ) (w : Part) → stripOf Unix s t ≡ Rest w
-    → valuesOf Unix (joined Unix t (bytesAt s (w .start) (w .len))) ≡ valuesOf Unix s
-unfolding stripOf bareDisk
-strip-joins s t w e =
+-- the same sentence of what strip and join answer: v is the view of what remains of s behind t
+pub strip-joins : (s t : List ℕ) (v : View) → stripOf Unix s t ≡ result v
+    → valuesOf Unix (joined Unix t (bytesAt s (v .start) (v .len))) ≡ valuesOf Unix s
+unfolding stripOf guard
+strip-joins s t v e =
     split (startsOf Unix s t)
-    (λ b. let r : stripRest false (listOf Unix s) (length (listOf Unix t)) ≡ w = rest-one _ w (rw b at e) in
-    rw (← r, strip-remains s (length (listOf Unix t)), joined-unix) (stripped-back s t (base-values s t b)))
-    (λ b. let z : Off ≡ Rest w = rw b at e in let y : _≡_ {A = ℕ} 0 1 = cc in absurd (omega arith))
+    (λ b. let r : viewOf (restOf false (listOf Unix s) (length (listOf Unix t)) 0) ≡ v = result-one _ v (rw (b, unix-undotted s) at e) in
+    rw (← r, joined-unix) (stripped-back s t (base-values s t b)))
+    (λ b. let z : refuse Absent ≡ result v = rw b at e in let y : _≡_ {A = ℕ} 0 1 = cc in absurd (omega arith))
