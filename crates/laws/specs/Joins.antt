@@ -33,7 +33,7 @@ use Rattle.matches.specs.Strip.{stripOf}
 use Rattle.joins.specs.Join.{joined}
 use Rattle.joins.specs.Laws.{joined-unix}
 use Rattle.seams.specs.Seam.{wants, glued, seamed}
-use Rattle.seams.specs.Laws.{either, wants-last, starts-nil, glued-open, glued-shut, seamed-relative, seamed-empty}
+use Rattle.seams.specs.Laws.{either, wants-last, starts-nil, glued-open, glued-shut, seamed-relative, seamed-empty, seamed-assoc}
 use Rattle.laws.specs.Values.{segments-none, bodyOf, partsOf, from-values, segments-trail, values-plain, values-seam, values-behind, values-drop, values-some, values-front, list-none, unix-from, unix-clear, unix-trail, unix-plain}
 
 -- "less a leading dot": without a first value that is a CurDir
@@ -218,3 +218,21 @@ strip-joins s t v e =
     (λ b. let r : viewOf (restOf false (listOf Unix s) (length (listOf Unix t)) 0) ≡ v = result-one _ v (rw (b, unix-undotted s) at e) in
     rw (← r, joined-unix) (stripped-back s t (base-values s t b)))
     (λ b. let z : refuse Absent ≡ result v = rw b at e in let y : _≡_ {A = ℕ} 0 1 = cc in absurd (omega arith))
+
+-- ---- the first two clauses, of what join answers
+
+-- "joining to the empty path gives the second"
+pub join-empty : (q : List ℕ) → joined Unix [] q ≡ q
+join-empty q = joined-unix [] q ∙ seamed-empty Unix q
+
+-- "p with (q with r) and (p with q) with r are the same bytes"
+pub join-grouping : (p q r : List ℕ) → joined Unix p (joined Unix q r) ≡ joined Unix (joined Unix p q) r
+join-grouping p q r =
+    joined-unix p (joined Unix q r)
+    ∙ ap (λ (x : List ℕ). seamed Unix p x) (joined-unix q r)
+    ∙ seamed-assoc Unix p q r
+    ∙ sym (joined-unix (joined Unix p q) r ∙ ap (λ (x : List ℕ). seamed Unix x r) (joined-unix p q))
+
+-- "a relative q joined to a nonempty p has p's components, then q's less a leading dot"
+pub join-components : (p q : List ℕ) → (length p ≡ 0 → ⊥) → sepAt Unix q 0 ≡ false → valuesOf Unix (joined Unix p q) ≡ valuesOf Unix p ++ undotted (valuesOf Unix q)
+join-components p q h e = rw (joined-unix p q) (joined-values p q h e)

@@ -3,3 +3,4 @@ pub mod Walks
 pub mod Replies
 pub mod Values
 pub mod Joins
+pub mod Unique
