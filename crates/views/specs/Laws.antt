@@ -147,17 +147,21 @@ pub climb-in : (sep : ℕ → Bool) (v : Bool) (s : List ℕ) (lo n : ℕ) (r : 
 climb-in sep v s lo n r e c g = (rw g at (c .is)) .1
 
 -- ---- `head_up`
-pub up-fixed : (d x : Dir) (n : ℕ) (r : View) → d ≡ x → refusedView Absent ≡ headUp x n → r ≡ refusedView Absent → r ≡ headUp d n
-up-fixed d x n r y f e = e ∙ f ∙ rw y
+pub up-fixed : (d x : Dir) (n : ℕ) (r : View) → d ≡ x → refuse Absent ≡ headUp x n → r ≡ refusedView Absent → r ≡ told refusedView (headUp d n)
+unfolding told
+up-fixed d x n r y f e = e ∙ rw (y, ← f)
 
 module _ (d : Dir) (n : ℕ) (y : d ≡ Lone) where
-  pub up-lone : n ≡ 1 → seen 0 0 ≡ headUp d n
+  pub up-lone : n ≡ 1 → seen 0 0 ≡ told refusedView (headUp d n)
+  unfolding told
   up-lone z = rw (y, z)
 
-  pub up-long : (n ≡ 1 → ⊥) → (r : View) → r ≡ refusedView Absent → r ≡ headUp d n
+  pub up-long : (n ≡ 1 → ⊥) → (r : View) → r ≡ refusedView Absent → r ≡ told refusedView (headUp d n)
+  unfolding told
   up-long z r e = e ∙ rw (y, ne-eqb n 1 z)
 
-head-short : (d : Dir) (n : ℕ) (s : List ℕ) → headUp d n .start + headUp d n .len ≤ length s
+head-short : (d : Dir) (n : ℕ) (s : List ℕ) → told refusedView (headUp d n) .start + told refusedView (headUp d n) .len ≤ length s
+unfolding told
 head-short Bare n s = omega arith
 head-short Root n s = omega arith
 head-short Implied n s = omega arith
@@ -187,16 +191,16 @@ unfolding dirOf
 dir-lone k s p i h = split (sepAt k s i) (λ e. absurd (false≢true (rw e at h))) (λ e. behind-lone k s p (rw e at h))
 
 -- where the last element of a list is none that leaves
-stays : (dot : Bool) (l : List Element) (n : ℕ) → leaves (nthBackOf l 0) ≡ false → told refusedView (upOf dot l (suc n)) ≡ refusedView Absent
-unfolding upOf told guard
+pub stays : (dot : Bool) (l : List Element) (n : ℕ) → leaves (nthBackOf l 0) ≡ false → upOf dot l (suc n) ≡ refuse Absent
+unfolding upOf guard
 stays dot l n e = rw (climbs-first l n e)
 
-lone-up : (dot : Bool) (e n : ℕ) → told refusedView (upOf dot (dirPart Lone e) (suc n)) ≡ headUp Lone (suc n)
-unfolding upOf told guard climbs cutOf nthBackOf nthOf
+lone-up : (dot : Bool) (e n : ℕ) → upOf dot (dirPart Lone e) (suc n) ≡ headUp Lone (suc n)
+unfolding upOf guard climbs cutOf nthBackOf nthOf
 lone-up dot e zero = split dot (λ f. rw f) (λ f. rw f)
 lone-up dot e (suc n) = rw (climbs-past (dirPart Lone e) (suc (suc n)) (omega arith), ne-eqb (suc (suc n)) 1 (λ z. omega arith))
 
-head-up-of : (dot : Bool) (p : Parsed) (d : Dir) (e n : ℕ) → (isLone d ≡ true → p ≡ Nothing) → told refusedView (upOf dot (prefixPart p e ++ dirPart d e) (suc n)) ≡ headUp d (suc n)
+head-up-of : (dot : Bool) (p : Parsed) (d : Dir) (e n : ℕ) → (isLone d ≡ true → p ≡ Nothing) → upOf dot (prefixPart p e ++ dirPart d e) (suc n) ≡ headUp d (suc n)
 unfolding nthBackOf nthOf
 head-up-of dot Nothing Bare e n f = stays dot [] n refl
 head-up-of dot (Is p) Bare e n f = stays dot (prefixPart (Is p) e) n refl
@@ -206,10 +210,9 @@ head-up-of dot Nothing Implied e n f = stays dot (dirPart Implied e) n refl
 head-up-of dot (Is p) Implied e n f = stays dot (prefixPart (Is p) e ++ dirPart Implied e) n refl
 head-up-of dot p Lone e n f = rw (f refl) (lone-up dot e n)
 
-head-alone : (k : Seps) (s : List ℕ) (h : Start) → OpenAt k s h → (dot : Bool) (m : ℕ) → 0 < m → told refusedView (upOf dot (headList h) m) ≡ headUp (h .dir) m
+pub head-alone : (k : Seps) (s : List ℕ) (h : Start) → OpenAt k s h → (dot : Bool) (n : ℕ) → upOf dot (headList h) (suc n) ≡ headUp (h .dir) (suc n)
 unfolding headList startOf
-head-alone k s h o dot zero w = absurd (omega arith)
-head-alone k s h o dot (suc n) w = head-up-of dot (h .prefix) (h .dir) (h .end) n (rw (o .is) (dir-lone k s (prefixIn k s) (endOfPrefix (prefixIn k s))))
+head-alone k s h o dot n = head-up-of dot (h .prefix) (h .dir) (h .end) n (rw (o .is) (dir-lone k s (prefixIn k s) (endOfPrefix (prefixIn k s))))
 
 -- ---- `head_end`
 
@@ -237,15 +240,15 @@ dot-inside : (k : Seps) (s : List ℕ) (i : ℕ) → dotAt k s i ≡ true → i 
 dot-inside k s i h = split (ltb i (length s)) (λ e. ltb-true i (length s) e) (λ e. absurd (false≢true (dot-past k s i (ltb-false i (length s) e) ∙ h)))
 
 module _ (k : Seps) (s : List ℕ) (h : Start) (o : OpenAt k s h) where
-  ends-at : endOr (nthBackOf (headList h) 0) ≡ h .at
+  pub ends-at : endOr (nthBackOf (headList h) 0) ≡ h .at
   unfolding headList startOf
   ends-at = rw (o .is) (head-last (prefixIn k s) (dirOf k (prefixIn k s) s (endOfPrefix (prefixIn k s))))
 
-  alone : dotBehind k h s ≡ true → length (headList h) ≡ 1
+  pub alone : dotBehind k h s ≡ true → length (headList h) ≡ 1
   unfolding headList dotBehind
   alone y = drive-alone k s (h .prefix) (h .dir) (h .end) y .0
 
-  dot-in : dotBehind k h s ≡ true → h .at + 1 ≤ length s
+  pub dot-in : dotBehind k h s ≡ true → h .at + 1 ≤ length s
   unfolding dotBehind startOf
   dot-in y =
       let a = drive-alone k s (h .prefix) (h .dir) (h .end) y in
@@ -264,6 +267,23 @@ module _ (k : Seps) (s : List ℕ) (h : Start) (o : OpenAt k s h) where
     unfolding cutOf
     head-plain n = record { is = rw (ends-at, ← e, n) (omega arith); inside = o .high }
 
+  -- a list whose body ends in p: the head comes before it, and a dot behind a drive does not count
+  module _ (e : ℕ) (w : List Element) (p : Element) (t : within (isSep (h .seps)) (dots (h .seps)) s (h .at) e ≡ w ++ (p ∷ [])) where
+    pub parted : leftOf h s e ≡ (headList h ++ w) ++ (p ∷ [])
+    unfolding leftOf
+    parted = rw (t, append-assoc)
+
+    later : dotBehind k h s ≡ true → (length (leftOf h s e) ≡ 0 + 1 → ⊥)
+    later y = λ z. omega (arith, alone y, ap length parted, length-append (headList h ++ w) (p ∷ []), length-append (headList h) w)
+
+    pub cut-last : cutOf (dotBehind k h s) (leftOf h s e) 0 ≡ p .start + p .len
+    unfolding cutOf
+    cut-last =
+        rw (back-last (leftOf h s e) (headList h ++ w) p parted)
+        (split (dotBehind k h s)
+        (λ y. rw (y, ne-eqb (length (leftOf h s e)) (0 + 1) (later y)) (omega arith))
+        (λ y. rw y (omega arith)))
+
   -- `end_before`
   module _ (e : ℕ) (p : Piece) (f : LastAt (isSep (h .seps)) (dots (h .seps)) s (h .at) e p) where
     pub before-none : p ≡ None → (r : ℕ) → CutAt (dotBehind k h s) (headList h) s r → CutAt (dotBehind k h s) (leftOf h s e) s r
@@ -274,39 +294,15 @@ module _ (k : Seps) (s : List ℕ) (h : Start) (o : OpenAt k s h) where
       pub before-fits : Fits w64 (q .start + q .len)
       before-fits = let t = last-found f g in record { fits = omega arith }
 
-      before : List Element
-      before = headList h ++ within (isSep (h .seps)) (dots (h .seps)) s (h .at) (q .start)
-
-      parted : leftOf h s e ≡ before ++ (lift q ∷ [])
-      unfolding leftOf before
-      parted = rw (last-found f g .is, append-assoc)
-
-      later : dotBehind k h s ≡ true → (length (leftOf h s e) ≡ 0 + 1 → ⊥)
-      unfolding before
-      later y =
-          let n : length (leftOf h s e) ≡ length before + 1 = ap length parted ∙ length-append before (lift q ∷ []) in
-          let m = length-append (headList h) (within (isSep (h .seps)) (dots (h .seps)) s (h .at) (q .start)) in
-          λ z. omega (arith, alone y)
-
       pub before-part : CutAt (dotBehind k h s) (leftOf h s e) s (q .start + q .len)
-      unfolding cutOf
-      before-part =
-          let t = last-found f g in
-          record {
-            is =
-                rw (back-last (leftOf h s e) before (lift q) parted)
-                (split (dotBehind k h s)
-                (λ y. rw (y, ne-eqb (length (leftOf h s e)) (0 + 1) (later y)) (omega arith))
-                (λ y. rw y (omega arith)));
-            inside = omega arith;
-          }
+      before-part = let t = last-found f g in record { is = sym (cut-last e (within (isSep (h .seps)) (dots (h .seps)) s (h .at) (q .start)) (lift q) (t .is)); inside = omega arith }
 
   -- ---- `up`
-  whole-left : listOf k s ≡ leftOf h s (length s)
+  pub whole-left : listOf k s ≡ leftOf h s (length s)
   unfolding wholeOf bodyList leftOf within
   whole-left = sym (whole-list k s h o) ∙ rw (take-length s)
 
-  dot-same : dotDisk k s ≡ dotBehind k h s
+  pub dot-same : dotDisk k s ≡ dotBehind k h s
   unfolding dotDisk
   dot-same = rw (o .is)
 
@@ -325,11 +321,13 @@ module _ (k : Seps) (s : List ℕ) (h : Start) (o : OpenAt k s h) where
         let m = rw g at (a .is) in
         record { is = rw (t .is) (sym (ap (told refusedView) (up-from n e 0 (m .0)))); inside = omega (arith, t .inside) }
 
-    pub up-head : (m : ℕ) (r : View) → c ≡ Head m → r ≡ headUp (h .dir) m → ViewAt (upOf (dotDisk k s) (listOf k s) n) s r
+    pub up-head : (m : ℕ) (r : View) → c ≡ Head m → r ≡ told refusedView (headUp (h .dir) m) → ViewAt (upOf (dotDisk k s) (listOf k s) n) s r
     up-head m r g e =
         let t = rw g at (a .is) in
+        let y : m ≡ suc (m - 1) = omega (arith, t .1) in
+        let u : upOf (dotBehind k h s) (headList h) m ≡ headUp (h .dir) m = rw y (head-alone k s h o (dotBehind k h s) (m - 1)) in
         record {
-          is = e ∙ sym (ap (told refusedView) (up-head-from n m (t .0)) ∙ head-alone k s h o (dotBehind k h s) m (t .1));
+          is = e ∙ sym (ap (told refusedView) (up-head-from n m (t .0) ∙ u));
           inside = rw e (head-short (h .dir) m s);
         }
 
@@ -376,7 +374,7 @@ module _ (k : Seps) (s : List ℕ) (h : Start) (o : OpenAt k s h) (p : Piece) (f
 
   module _ (q : Part) (g : p ≡ Found q) (b : Bool) (n : b ≡ isName (q .kind)) where
     the-last : nthBackOf (listOf k s) 0 ≡ Here (lift q)
-    the-last = rw (whole-left k s h o) (back-last (leftOf h s (length s)) (before k s h o (length s) p f q g) (lift q) (parted k s h o (length s) p f q g))
+    the-last = rw (whole-left k s h o) (back-last (leftOf h s (length s)) (headList h ++ within (isSep (h .seps)) (dots (h .seps)) s (h .at) (q .start)) (lift q) (parted k s h o (length s) (within (isSep (h .seps)) (dots (h .seps)) s (h .at) (q .start)) (lift q) (last-found f g .is)))
 
     pub name-is : b ≡ true → NameAt k s (Found q)
     unfolding lastName
