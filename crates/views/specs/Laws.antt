@@ -115,7 +115,7 @@ climbs-past l n h = split (climbs l n) (λ t. absurd (omega (arith, climbs-few l
 
 -- ---- `climb`
 
-kind-leaves : (q : Kind) → leavesKind (componentOf q) ≡ true
+pub kind-leaves : (q : Kind) → leavesKind (componentOf q) ≡ true
 kind-leaves Dot = refl
 kind-leaves DotDot = refl
 kind-leaves Name = refl
@@ -229,7 +229,7 @@ head-last (Is p) Implied = refl
 head-last (Is p) Lone = refl
 
 -- a dot behind a drive: the prefix stands alone in the head
-drive-alone : (k : Seps) (s : List ℕ) (p : Parsed) (d : Dir) (e : ℕ) → cond (onDisk p) (cond (isBare d) (dotAt k s e) false) false ≡ true → (length (prefixPart p e ++ dirPart d e) ≡ 1) × (dirLen d ≡ 0) × (dotAt k s e ≡ true)
+pub drive-alone : (k : Seps) (s : List ℕ) (p : Parsed) (d : Dir) (e : ℕ) → cond (onDisk p) (cond (isBare d) (dotAt k s e) false) false ≡ true → (length (prefixPart p e ++ dirPart d e) ≡ 1) × (dirLen d ≡ 0) × (dotAt k s e ≡ true)
 drive-alone k s Nothing d e h = absurd (false≢true h)
 drive-alone k s (Is p) Bare e h = split (isDisk p) (λ t. (refl, refl, rw t at h)) (λ t. absurd (false≢true (rw t at h)))
 drive-alone k s (Is p) Root e h = split (isDisk p) (λ t. absurd (false≢true (rw t at h))) (λ t. absurd (false≢true (rw t at h)))
