@@ -7,7 +7,7 @@ use mathlib.Core.Path.{_≡_, refl, sym, ap, _∙_}
 use mathlib.Core.List.{List, [], _∷_, _++_, append-nil}
 use mathlib.Core.Bool.{Bool, true, false, cond, false≢true}
 use mathlib.Core.Logic.{_⊎_, ⊎-elim, inl, inr}
-use lib.ListN.{length, getD, take, drop, length-append, length-drop, take-append-drop}
+use lib.ListN.{length, getD, take, drop, length-append, length-take, length-drop, take-append-drop}
 use lib.Seq.{take-length, take-take, length-take-le, getD-take}
 use lib.Dec.{eqb, ltb}
 use borrow.Author.Tests.{eq-eqb, ne-eqb, eqb-true, eqb-false, ltb-true, ltb-false, lt-ltb, le-ltb}
@@ -41,7 +41,7 @@ use Rattle.components.specs.Leaves.{OpenAt}
 use Rattle.components.specs.Laws.{begin-is, dot-past, dot-not, dot-end, dot-sep}
 use Rattle.views.specs.Leaves.{leftOf, headUp}
 use Rattle.views.specs.Views.{onDisk, isBare, dotBehind, dotDisk, cutOf, leaves, climbs, upOf, parentOf, ancestorOf}
-use Rattle.views.specs.Laws.{climbs-few, up-on, stays, head-alone, ends-at, alone as head-lone, dot-in, parted, cut-last, whole-left, dot-same, drive-alone}
+use Rattle.views.specs.Laws.{climbs-few, up-on, stays, head-alone, ends-at, alone as head-lone, dot-in, parted, cut-last, whole-left, dot-same, drive-alone, kind-leaves}
 
 -- ---- over lists: the ancestor one further is the parent of the list without its last n components
 
@@ -380,3 +380,104 @@ lone-next : (k : Seps) (n : ℕ) → headUp Lone (suc n) ≡ ancestorOf n k []
 unfolding ancestorOf nthBackOf
 lone-next k zero = refl
 lone-next k (suc n) = rw (ancestor-up n k [], empty-list k, ne-eqb (suc (suc n)) 1 (λ z. omega arith)) (sym (stays (dotDisk k []) [] n refl))
+
+on-same : (o : Outcome View) (f g : ℕ → Outcome View) → ((e : ℕ) → f e ≡ g e) → onView o f ≡ onView o g
+on-same (refuse r) f g h = refl
+on-same (result v) f g h = h (v .len)
+
+on-on : (o : Outcome View) (f g : ℕ → Outcome View) → onView o (λ e. onView (f e) g) ≡ onView (onView o f) g
+on-on (refuse r) f g = refl
+on-on (result v) f g = refl
+
+-- a view of at most m bytes
+abbrev Within : ℕ → Outcome View → Type 0
+Within m (refuse r) = Unit
+Within m (result v) = v .len ≤ m
+
+wider : (a b : ℕ) (o : Outcome View) → a ≤ b → Within a o → Within b o
+wider a b (refuse r) h w = tt
+wider a b (result v) h w = omega (arith, w)
+
+on-within : (m : ℕ) (o : Outcome View) (f : ℕ → Outcome View) → ((e : ℕ) → Within m (f e)) → Within m (onView o f)
+on-within m (refuse r) f h = tt
+on-within m (result v) f h = h (v .len)
+
+on-same-within : (m : ℕ) (o : Outcome View) (f g : ℕ → Outcome View) → Within m o → ((e : ℕ) → e ≤ m → f e ≡ g e) → onView o f ≡ onView o g
+on-same-within m (refuse r) f g w h = refl
+on-same-within m (result v) f g w h = h (v .len) w
+
+-- a prefix is the same in what remains of its path
+module _ (k : Seps) (v : dots k ≡ false) (stable : (s : List ℕ) (e : ℕ) → startOf k s .at ≤ e → prefixIn k (take e s) ≡ prefixIn k s) where
+  module _ (s : List ℕ) where
+    -- from the other end: the ancestors of the parent
+    case-dir : (d : Dir) (n : ℕ) → headUp d (suc n) ≡ onView (headUp d 1) (λ e. ancestorOf n k (take e s))
+    case-dir Bare n = refl
+    case-dir Root n = refl
+    case-dir Implied n = refl
+    case-dir Lone n = lone-next k n
+
+    front-head : (n : ℕ) → bodyTo k v s (length s) ≡ [] → ancestorOf (suc n) k s ≡ onView (parentOf k s) (λ e. ancestorOf n k (take e s))
+    unfolding leftOf
+    front-head n z =
+        let o = opened k v s in
+        let l : listOf k s ≡ headList (startOf k s) = whole-left k s (startOf k s) o ∙ rw (z, append-nil) in
+        let b : parentOf k s ≡ headUp (startOf k s .dir) 1 = parent-up k s ∙ rw l (head-alone k s (startOf k s) o (dotDisk k s) 0) in
+        ancestor-up n k s ∙ rw (l, head-alone k s (startOf k s) o (dotDisk k s) n, b) (case-dir (startOf k s .dir) n)
+
+    module _ (q : Part) (f : Final (isSep (startOf k s .seps)) (dots (startOf k s .seps)) s (startOf k s .at) (length s) q) where
+      cut : ℕ
+      cut = cutOf (dotDisk k s) (leftOf (startOf k s) s (q .start)) 0
+
+      trimmed : Trimmed k v s (q .start) cut
+      unfolding cut
+      trimmed = trim k v s (q .start) (f .low)
+
+      split-list : listOf k s ≡ leftOf (startOf k s) s (q .start) ++ (lift q ∷ [])
+      unfolding leftOf
+      split-list = whole-left k s (startOf k s) (opened k v s) ∙ parted k s (startOf k s) (opened k v s) (length s) (bodyTo k v s (q .start)) (lift q) (f .is)
+
+      up-part : (n : ℕ) → upOf (dotDisk k s) (listOf k s) (n + 1) ≡ upOf (dotDisk k s) (leftOf (startOf k s) s (q .start)) n
+      up-part n = rw split-list (up-on (leftOf (startOf k s) s (q .start)) (lift q) (kind-leaves (q .kind)) (dotDisk k s) n)
+
+      rest-of : (n : ℕ) → upOf (dotDisk k s) (leftOf (startOf k s) s (q .start)) n ≡ ancestorOf n k (take cut s)
+      unfolding ancestorOf upOf climbs guard cut
+      rest-of zero = rw (length-take-le cut s (trimmed .inside))
+      rest-of (suc n) =
+          let t = trimmed in
+          let p = stable s cut (at-good k v s cut (t .inside) (t .good)) in
+          sym (ancestor-up n k (take cut s) ∙ rw (disk-take k v s cut (t .inside) (t .good) p, list-take k v s cut (t .inside) (t .good) p, t .same))
+
+      none-taken : upOf (dotDisk k s) (leftOf (startOf k s) s (q .start)) 0 ≡ result (seen 0 cut)
+      unfolding upOf climbs guard cut
+      none-taken = refl
+
+      front-part : (n : ℕ) → ancestorOf (suc n) k s ≡ onView (parentOf k s) (λ e. ancestorOf n k (take e s))
+      front-part n =
+          let b : parentOf k s ≡ result (seen 0 cut) = parent-up k s ∙ up-part 0 ∙ none-taken in
+          ancestor-up n k s ∙ rw (← add-one n) (up-part n ∙ rw b (rest-of n))
+
+    front : (n : ℕ) → ancestorOf (suc n) k s ≡ onView (parentOf k s) (λ e. ancestorOf n k (take e s))
+    front n = last-by (isSep (startOf k s .seps)) (dots (startOf k s .seps)) s (startOf k s .at) (length s) (omega arith) (front-head n) (λ q f. front-part q f n)
+
+  -- an ancestor lies in the path
+  bound : (n : ℕ) (s : List ℕ) → Within (length s) (ancestorOf n k s)
+  unfolding ancestorOf
+  bound zero s = omega arith
+  bound (suc n) s = rw (front s n) (on-within (length s) (parentOf k s) (λ e. ancestorOf n k (take e s)) (λ e. wider (length (take e s)) (length s) (ancestorOf n k (take e s)) (omega (arith, length-take e s)) (bound n (take e s))))
+
+  next-of : (n : ℕ) (s : List ℕ) → ancestorOf (n + 1) k s ≡ onView (ancestorOf n k s) (λ e. parentOf k (take e s))
+  unfolding ancestorOf
+  next-of zero s = rw (take-length s) (ancestor-up 0 k s ∙ sym (parent-up k s))
+  next-of (suc n) s =
+      rw add-one
+      (front s (suc n)
+      ∙ on-same (parentOf k s) (λ e. ancestorOf (suc n) k (take e s)) (λ e. onView (ancestorOf n k (take e s)) (λ u. parentOf k (take u s)))
+      (λ e. (rw add-one at (next-of n (take e s)))
+      ∙ on-same-within (length (take e s)) (ancestorOf n k (take e s)) (λ u. parentOf k (take u (take e s))) (λ u. parentOf k (take u s)) (bound n (take e s))
+      (λ u h. ap (parentOf k) (take-take u e s (omega (arith, length-take e s)))))
+      ∙ on-on (parentOf k s) (λ e. ancestorOf n k (take e s)) (λ u. parentOf k (take u s))
+      ∙ ap (λ (o : Outcome View). onView o (λ u. parentOf k (take u s))) (sym (front s n)))
+
+-- in Unix mode
+pub next-unix : (n : ℕ) (s : List ℕ) → ancestorOf (n + 1) Unix s ≡ onView (ancestorOf n Unix s) (λ e. parentOf Unix (take e s))
+next-unix = next-of Unix refl (λ s e h. refl)
