@@ -11,7 +11,7 @@ use lib.ListN.{length, getD, take, drop, length-append, length-take, length-drop
 use lib.Seq.{take-length, take-take, length-take-le, getD-take}
 use lib.Dec.{eqb, ltb}
 use borrow.Author.Tests.{eq-eqb, ne-eqb, eqb-true, eqb-false, ltb-true, ltb-false, lt-ltb, le-ltb}
-use Rattle.octets.specs.Class.{isSep, isLetter, classOf}
+use Rattle.octets.specs.Class.{isSep, isLetter, classOf, sepsOf}
 use Rattle.octets.specs.Segment.{lead, endOf}
 use Rattle.octets.specs.Laws.{split, end-more, end-out}
 use Rattle.octets.specs.declared.Seps.{Seps}
@@ -39,6 +39,7 @@ use Rattle.components.specs.declared.Start.{Start}
 use Rattle.components.specs.List.{sepAt, dotAt, innerSeps, behindPrefix, dirOf, dirLen, startOf, headList, bodyList, wholeOf, listOf, rootless}
 use Rattle.components.specs.Leaves.{OpenAt}
 use Rattle.components.specs.Laws.{begin-is, dot-past, dot-not, dot-end, dot-sep}
+use Rattle.views.specs.Cut.{prefix-cut}
 use Rattle.views.specs.Leaves.{leftOf, headUp}
 use Rattle.views.specs.Views.{onDisk, isBare, dotBehind, dotDisk, cutOf, leaves, climbs, upOf, parentOf, ancestorOf}
 use Rattle.views.specs.Laws.{climbs-few, up-on, stays, head-alone, ends-at, alone as head-lone, dot-in, parted, cut-last, whole-left, dot-same, drive-alone, kind-leaves}
@@ -478,6 +479,20 @@ module _ (k : Seps) (v : dots k ≡ false) (stable : (s : List ℕ) (e : ℕ) �
       ∙ on-on (parentOf k s) (λ e. ancestorOf n k (take e s)) (λ u. parentOf k (take u s))
       ∙ ap (λ (o : Outcome View). onView o (λ u. parentOf k (take u s))) (sym (front s n)))
 
--- in Unix mode
-pub next-unix : (n : ℕ) (s : List ℕ) → ancestorOf (n + 1) Unix s ≡ onView (ancestorOf n Unix s) (λ e. parentOf Unix (take e s))
-next-unix = next-of Unix refl (λ s e h. refl)
+-- Unix has no prefix; a Windows prefix stands as long as it and a separator that follows it remain
+stable-of : (k : Seps) → dots k ≡ false → (s : List ℕ) (e : ℕ) → startOf k s .at ≤ e → prefixIn k (take e s) ≡ prefixIn k s
+unfolding startOf dirOf sepAt
+stable-of Unix v s e h = refl
+stable-of Windows v s e h =
+    prefix-cut s e
+    (omega arith)
+    (λ l y. let t = rw (lt-ltb (endOfPrefix (prefixOf s)) (length s) l, y) at h in omega (arith, t))
+stable-of OnlyBack v s e h = absurd (false≢true (sym v))
+
+no-dots : (m : ℕ) → dots (sepsOf m) ≡ false
+unfolding sepsOf
+no-dots m = split (eqb m 0) (λ y. rw y) (λ y. rw y)
+
+-- in either mode
+pub next-one : (m n : ℕ) (s : List ℕ) → ancestorOf (n + 1) (sepsOf m) s ≡ onView (ancestorOf n (sepsOf m) s) (λ e. parentOf (sepsOf m) (take e s))
+next-one m n s = next-of (sepsOf m) (no-dots m) (stable-of (sepsOf m) (no-dots m)) n s
