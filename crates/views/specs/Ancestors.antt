@@ -10,7 +10,7 @@ use mathlib.Core.Logic.{_⊎_, ⊎-elim, inl, inr}
 use lib.ListN.{length, getD, take, drop, length-append, length-take, length-drop, take-append-drop}
 use lib.Seq.{take-length, take-take, length-take-le, getD-take}
 use lib.Dec.{eqb, ltb}
-use borrow.Author.Tests.{eq-eqb, ne-eqb, eqb-true, eqb-false, ltb-true, ltb-false, lt-ltb, le-ltb}
+use borrow.Author.Tests.{eq-eqb, ne-eqb, eqb-true, eqb-false, ltb-true, ltb-false, lt-ltb}
 use Rattle.octets.specs.Class.{isSep, isLetter, classOf, sepsOf}
 use Rattle.octets.specs.Segment.{lead, endOf}
 use Rattle.octets.specs.Laws.{split, end-more, end-out}
@@ -29,19 +29,18 @@ use Rattle.parts.specs.declared.Part.{Part}
 use Rattle.parts.specs.declared.Sort.{Sort}
 use Rattle.parts.specs.declared.Sort.the-variants.{Skip, Is as IsKind}
 use Rattle.parts.specs.Body.{dots, put, sortAt, sortBy, rest, from}
-use Rattle.parts.specs.Elements.{nthBackOf, endOr}
+use Rattle.parts.specs.Elements.{nthBackOf}
 use Rattle.parts.specs.Steps.{lift, within, BeginAt}
 use Rattle.parts.specs.Laws.{back-before, begin-start, begin-here, begin-more, begin-out, seam-at, alone, ahead, within-none}
 use Rattle.prefixes.specs.Prefix.{prefixIn, endOfPrefix, prefixOf, begins, drive}
 use Rattle.components.specs.declared.Dir.{Dir}
 use Rattle.components.specs.declared.Dir.the-variants.{Bare, Root, Implied, Dot as Lone}
-use Rattle.components.specs.declared.Start.{Start}
 use Rattle.components.specs.List.{sepAt, dotAt, innerSeps, behindPrefix, dirOf, dirLen, startOf, headList, bodyList, wholeOf, listOf, rootless}
 use Rattle.components.specs.Leaves.{OpenAt}
 use Rattle.components.specs.Laws.{begin-is, dot-past, dot-not, dot-end, dot-sep}
-use Rattle.views.specs.Cut.{prefix-cut}
+use Rattle.prefixes.specs.Cut.{prefix-cut}
 use Rattle.views.specs.Leaves.{leftOf, headUp}
-use Rattle.views.specs.Views.{onDisk, isBare, dotBehind, dotDisk, cutOf, leaves, climbs, upOf, parentOf, ancestorOf}
+use Rattle.views.specs.Views.{onDisk, isBare, dotBehind, dotDisk, cutOf, climbs, upOf, parentOf, ancestorOf}
 use Rattle.views.specs.Laws.{climbs-few, up-on, stays, head-alone, ends-at, alone as head-lone, dot-in, parted, cut-last, whole-left, dot-same, drive-alone, kind-leaves}
 
 -- ---- over lists: the ancestor one further is the parent of the list without its last n components

@@ -3,11 +3,11 @@ use Prim.Native.Nat.{ℕ, zero, suc, _+_, _-_, _*_, _^_, _<_, _≤_}
 use mir.Syntax.{w64}
 use mir.Val.{Fits}
 use native.Mathlib.Numerals.{add-one}
-use native.Mathlib.Nat.{add-zero, add-sub-cancel-left}
+use native.Mathlib.Nat.{add-sub-cancel-left}
 use native.Mathlib.Omega.{arith}
 use mathlib.Core.Path.{_≡_, refl, sym, ap, _∙_}
 use mathlib.Core.List.{List, [], _∷_, _++_, append-nil, append-assoc}
-use mathlib.Core.Bool.{Bool, true, false, not, cond, false≢true}
+use mathlib.Core.Bool.{Bool, true, false, cond, false≢true}
 use lib.ListN.{length, getD, take, drop, length-append, length-drop}
 use lib.Seq.{take-length, take-suc, getD-drop, length-take-le}
 use lib.Dec.{eqb, ltb}
@@ -18,15 +18,13 @@ use Rattle.octets.specs.declared.Seps.{Seps}
 use Rattle.answers.specs.declared.Reply.the-variants.{Absent}
 use Rattle.answers.specs.declared.View.{View}
 use Rattle.answers.specs.Reply.{refusedView, seen}
-use Rattle.answers.specs.Outcome.{Outcome, refuse, result, told, guard, present}
+use Rattle.answers.specs.Outcome.{Outcome, refuse, told, guard}
 use Rattle.prefixes.specs.declared.Prefix.{Prefix}
 use Rattle.prefixes.specs.declared.Prefix.the-variants.{Verbatim, VerbatimUnc, VerbatimDisk, DeviceNs, Unc, Disk}
 use Rattle.prefixes.specs.declared.Parsed.{Parsed}
 use Rattle.prefixes.specs.declared.Parsed.the-variants.{Nothing, Is}
 use Rattle.prefixes.specs.Prefix.{prefixIn, endOfPrefix}
-use Rattle.parts.specs.declared.Component.{Component}
 use Rattle.parts.specs.declared.Element.{Element}
-use Rattle.parts.specs.declared.Item.{Item}
 use Rattle.parts.specs.declared.Item.the-variants.{Missing, Here}
 use Rattle.parts.specs.declared.Kind.{Kind}
 use Rattle.parts.specs.declared.Kind.the-variants.{Dot, DotDot, Name}
@@ -35,7 +33,7 @@ use Rattle.parts.specs.declared.Piece.{Piece}
 use Rattle.parts.specs.declared.Piece.the-variants.{Nothing as None, Found}
 use Rattle.parts.specs.Body.{componentOf, dots}
 use Rattle.parts.specs.Elements.{nthOf, nthBackOf, endOr}
-use Rattle.parts.specs.Steps.{lift, raised, within, LastAt}
+use Rattle.parts.specs.Steps.{lift, within, LastAt}
 use Rattle.parts.specs.Laws.{last-none, last-found, back-last, back-on, back-past, back-inside}
 use Rattle.components.specs.declared.Dir.{Dir}
 use Rattle.components.specs.declared.Dir.the-variants.{Bare, Root, Implied, Dot as Lone}

@@ -2,5 +2,4 @@ pub mod Views
 pub mod Leaves
 pub mod Laws
 pub mod Examples
-pub mod Cut
 pub mod Ancestors

@@ -1,27 +1,23 @@
 -- A path cut behind its prefix, and behind a separator that follows it, has the same prefix.
 use Prim.Native.Nat.{ℕ, zero, suc, _+_, _-_, _<_, _≤_}
-use native.Mathlib.Numerals.{add-one}
 use native.Mathlib.Nat.{sub-zero, zero-sub, suc-sub-suc}
 use native.Mathlib.Omega.{arith}
-use mathlib.Core.Path.{_≡_, refl, sym, ap, _∙_}
+use mathlib.Core.Path.{_≡_, refl, sym, _∙_}
 use mathlib.Core.List.{List, [], _∷_}
-use mathlib.Core.Bool.{Bool, true, false, not, cond, false≢true}
-use lib.ListN.{length, getD, take, drop, length-take, length-drop, drop-of-length-le}
+use mathlib.Core.Bool.{Bool, true, false, false≢true}
+use lib.ListN.{length, getD, take, drop, length-take, length-drop}
 use lib.Seq.{take-all, take-nil, take-take, getD-take, getD-drop, drop-length}
 use lib.Dec.{eqb, ltb}
-use borrow.Author.Tests.{eqb-true, eqb-false, eq-eqb, ne-eqb, ltb-true, ltb-false, lt-ltb, le-ltb}
+use borrow.Author.Tests.{eqb-true, eq-eqb, ne-eqb, ltb-true, ltb-false, lt-ltb, le-ltb}
 use Rattle.octets.specs.Class.{isLetter, classOf, isSep}
 use Rattle.octets.specs.Segment.{lead}
-use Rattle.octets.specs.Laws.{split, lead-short}
+use Rattle.octets.specs.Laws.{split}
 use Rattle.octets.specs.declared.Seps.the-variants.{Windows, Verbatim as OnlyBack}
-use Rattle.prefixes.specs.declared.Name.{Name}
 use Rattle.prefixes.specs.declared.Names.{Names}
-use Rattle.prefixes.specs.declared.Prefix.{Prefix}
-use Rattle.prefixes.specs.declared.Prefix.the-variants.{Verbatim, VerbatimUnc, VerbatimDisk, DeviceNs, Unc, Disk}
-use Rattle.prefixes.specs.declared.Parsed.{Parsed}
-use Rattle.prefixes.specs.declared.Parsed.the-variants.{Nothing, Is}
-use Rattle.prefixes.specs.Prefix.{turned, begins, slashed, capital, drive, driveExact, past, nameOf, namesOf, verbatimOf, bothOf, uncOf, isVerbatim, deviceOf, prefixOf, shareLen, lenOf, endOfPrefix}
+use Rattle.prefixes.specs.declared.Prefix.the-variants.{VerbatimUnc}
+use Rattle.prefixes.specs.declared.Parsed.the-variants.{Nothing}
+use Rattle.prefixes.specs.Prefix.{turned, begins, drive, driveExact, past, nameOf, namesOf, verbatimOf, uncOf, isVerbatim, deviceOf, prefixOf, lenOf, endOfPrefix}
 use Rattle.prefixes.specs.Laws.{drive-short, drive-two, exact-not, exact-end, exact-sep, exact-three}
 
 drop-take : (n m : ℕ) (t : List ℕ) → drop n (take m t) ≡ take (m - n) (drop n t)
 drop-take zero m t = rw sub-zero
