@@ -8,6 +8,7 @@ use borrow.Author.Tests.{lt-ltb, le-ltb}
 use Rattle.octets.specs.Class.{limit}
 use Rattle.answers.specs.declared.Reply.{Reply}
 use Rattle.answers.specs.declared.Reply.the-variants.{Mode, Length, Absent}
+use Rattle.answers.specs.Reply.{bit, judged}
 use Rattle.answers.specs.Outcome.{Outcome, refuse, result, told, guard, inMode, short, present}
 
 module _ {A : Type 0} (f : Reply → A) (r : Reply) (o : Outcome A) where
@@ -52,3 +53,12 @@ module _ {A : Type 0} (f : Reply → A) (x : A) (b : Bool) where
   done y e h = e ∙ sym (goes f Absent (result y) (rw h))
 
 pub ruleset guards = (no-mode, too-long, all-well, second-long, both-well, absent, done)
+
+-- `judge`
+pub judge-yes : (b : Bool) → b ≡ true → judged 1 ≡ judged (bit b)
+judge-yes b e = rw e
+
+pub judge-not : (b : Bool) → b ≡ false → judged 0 ≡ judged (bit b)
+judge-not b e = rw e
+
+pub ruleset judges = (judge-yes, judge-not)

@@ -1,5 +1,6 @@
 -- The nine replies, the answers, and how a refusal looks. Document 01, "Replies".
 use Prim.Native.Nat.{ℕ}
+use mathlib.Core.Bool.{Bool, true, false}
 use Rattle.answers.specs.declared.Reply.{Reply}
 use Rattle.answers.specs.declared.Reply.the-variants.{Done, Mode, Length, Absent, Name, Empty, Base, Room, Cursor}
 use Rattle.answers.specs.declared.View.{View}
@@ -30,3 +31,8 @@ seen a n = record { reply = Done; start = a; len = n }
 
 abbrev pub judged : ℕ → Verdict
 judged v = record { reply = Done; value = v }
+
+-- a test's value
+abbrev pub bit : Bool → ℕ
+bit true = 1
+bit false = 0

@@ -1,7 +1,7 @@
 // What a call answers: the nine replies with their numbers, the answer structs, and how a refusal of each looks.
 // One function makes every refusal of a struct, so that one more number in a struct is one edit.
 ghost use mathlib.Core.Path.{_≡_};
-ghost use Rattle.answers.specs.Reply.{numberOf, refusedView, refusedVerdict};
+ghost use Rattle.answers.specs.Reply.{numberOf, refusedView, refusedVerdict, bit, judged};
 
 pub enum Reply {
     Done,
@@ -58,4 +58,20 @@ pub fn refuse_verdict(r: Reply) -> Verdict
     ensures { λ a. ⌜ a ≡ refusedVerdict r ⌝ }
 {
     Verdict { reply: r, value: 0 }
+}
+
+// What a test answers: 1 or 0.
+pub fn judge(b: bool) -> Verdict
+    ensures { λ a. ⌜ a ≡ judged (bit b) ⌝ }
+{
+    if b {
+        return Verdict {
+            reply: Reply::Done,
+            value: 1,
+        };
+    }
+    Verdict {
+        reply: Reply::Done,
+        value: 0,
+    }
 }

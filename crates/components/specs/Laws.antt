@@ -28,9 +28,9 @@ use Rattle.parts.specs.declared.Part.{Part}
 use Rattle.parts.specs.declared.Piece.{Piece}
 use Rattle.parts.specs.declared.Piece.the-variants.{Nothing as None, Found}
 use Rattle.parts.specs.Body.{dots, from}
-use Rattle.parts.specs.Elements.{nthOf, nthBackOf}
+use Rattle.parts.specs.Elements.{nthOf, nthBackOf, Upto}
 use Rattle.parts.specs.Steps.{lift, raised, within}
-use Rattle.parts.specs.Laws.{few, nth-append, nth-behind, nth-past, back-behind, back-before, back-past, back-nth, back-missing, back-inside-of}
+use Rattle.parts.specs.Laws.{from-upto, upto-append, few, nth-append, nth-behind, nth-past, back-behind, back-before, back-past, back-nth, back-missing, back-inside-of}
 use Rattle.components.specs.declared.Dir.{Dir}
 use Rattle.components.specs.declared.Dir.the-variants.{Bare, Root, Implied, Dot}
 use Rattle.components.specs.declared.Start.{Start}
@@ -312,3 +312,37 @@ module _ (k : Seps) (s : List ℕ) (p : Parsed) (e : p ≡ prefixIn k s) (b : Bo
   absolute-root r n g = g ∙ rw (← e, ← f, n)
 
 pub ruleset lists = (item-bare, item-root, item-implied, item-dot, count-sum, count-head, head-dir, head-none, head-prefix, head-second, head-third, whole-head, whole-body, total-fits, total-is, back-found, body-past, back-head, back-out, element-is, element-back-is, total-of-list, root-here, root-prefix, disk-rootless, wants-none, wants-some, absolute-not, absolute-root)
+
+-- ---- the list lies in the path, and has few elements
+
+prefix-upto : (m : ℕ) (p : Parsed) (e : ℕ) → e ≤ m → Upto m (prefixPart p e)
+unfolding Upto
+prefix-upto m Nothing e h = tt
+prefix-upto m (Is p) e h = (omega arith, tt)
+
+dir-upto : (m : ℕ) (d : Dir) (e : ℕ) → e + dirLen d ≤ m → Upto m (dirPart d e)
+unfolding Upto
+dir-upto m Bare e h = tt
+dir-upto m Root e h = (h, tt)
+dir-upto m Implied e h = (omega arith, tt)
+dir-upto m Dot e h = (h, tt)
+
+at-is : (k : Seps) (s : List ℕ) (h : Start) → OpenAt k s h → h .end + dirLen (h .dir) ≡ h .at
+unfolding startOf
+at-is k s h o = rw (o .is)
+
+pub list-upto : (k : Seps) (s : List ℕ) (h : Start) → OpenAt k s h → Upto (length s) (wholeOf h s)
+unfolding wholeOf headList bodyList
+list-upto k s h o =
+    let e = at-is k s h o in
+    upto-append (length s) _ _
+    (upto-append (length s) _ _ (prefix-upto (length s) (h .prefix) (h .end) (omega (arith, o .low, o .high))) (dir-upto (length s) (h .dir) (h .end) (omega (arith, o .high))))
+    (from-upto (isSep (h .seps)) (dots (h .seps)) s (h .at) (o .high))
+
+pub list-few : (h : Start) (s : List ℕ) → length (wholeOf h s) ≤ length s + 3
+unfolding wholeOf bodyList
+list-few h s = omega (arith, length-append (headList h) (bodyList h s), head-few h, few (isSep (h .seps)) (dots (h .seps)) s (h .at))
+
+pub path-few : (k : Seps) (s : List ℕ) → length (listOf k s) ≤ length s + 3
+unfolding listOf
+path-few k s = list-few (startOf k s) s

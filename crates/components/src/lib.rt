@@ -31,7 +31,7 @@ pub struct Start {
 }
 
 // Whether a separator stands at place i.
-fn sep_at(k: Seps, s: &[u8], i: usize) -> bool
+pub fn sep_at(k: Seps, s: &[u8], i: usize) -> bool
     ensures { λ r. ⌜ r ≡ sepAt k (now (s .entry)) i ⌝ }
 {
     if i < s.len() {
@@ -230,7 +230,7 @@ fn head_at(h: Start, f: usize) -> Item
 }
 
 // Element f of the list that a start tells of.
-fn element_of(h: Start, s: &[u8], f: usize) -> Item
+pub fn element_of(h: Start, s: &[u8], f: usize) -> Item
     ensures { λ r. ⌜ r ≡ nthOf (wholeOf h (now (s .entry))) f ⌝ }
 {
     let n = head_count(h);
@@ -244,7 +244,7 @@ fn element_of(h: Start, s: &[u8], f: usize) -> Item
 }
 
 // The element of that list that has b others behind it. Only where the body runs out is it counted.
-fn element_back_of(h: Start, s: &[u8], b: usize) -> Item
+pub fn element_back_of(h: Start, s: &[u8], b: usize) -> Item
     ensures { λ r. ⌜ r ≡ nthBackOf (wholeOf h (now (s .entry))) b ⌝ }
 {
     let k = h.seps;
@@ -281,7 +281,7 @@ pub fn element_back(k: Seps, s: &[u8], b: usize) -> Item
     element_back_of(h, s, b)
 }
 
-fn total_of(h: Start, s: &[u8]) -> usize
+pub fn total_of(h: Start, s: &[u8]) -> usize
     ensures { λ r. ⌜ CountAt (wholeOf h (now (s .entry))) r ⌝ }
 {
     let n = head_count(h);
@@ -298,7 +298,7 @@ pub fn total(k: Seps, s: &[u8]) -> usize
     total_of(h, s)
 }
 
-fn is_disk(p: Prefix) -> bool
+pub fn is_disk(p: Prefix) -> bool
     ensures { λ r. ⌜ r ≡ isDisk p ⌝ }
 {
     match p {
@@ -320,7 +320,7 @@ fn is_rootless(p: Parsed) -> bool
     }
 }
 
-fn is_root(d: Dir) -> bool
+pub fn is_root(d: Dir) -> bool
     ensures { λ r. ⌜ r ≡ isRoot d ⌝ }
 {
     match d {

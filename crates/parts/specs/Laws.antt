@@ -3,7 +3,7 @@ use Prim.Native.Nat.{ℕ, zero, suc, _+_, _-_, _*_, _^_, _≤_, _<_}
 use mir.Syntax.{w64}
 use mir.Val.{Fits}
 use native.Mathlib.Numerals.{add-one, sub-one}
-use native.Mathlib.Nat.{add-zero, add-suc, suc-add, add-sub-cancel-left, add-sub-of-le, not-suc-le-zero}
+use native.Mathlib.Nat.{add-zero, add-suc, suc-add, add-sub-cancel-left, add-sub-of-le, not-suc-le-zero, le-of-suc-le-suc}
 use native.Mathlib.Omega.{arith}
 use mathlib.Core.Path.{_≡_, refl, sym, ap, _∙_}
 use mathlib.Core.List.{List, [], _∷_, _++_, append-nil}
@@ -14,14 +14,15 @@ use lib.Seq.{drop-cons, getD-drop, drop-drop, length-take-le, take-take, getD-ta
 use Rattle.octets.specs.Segment.{lead, endOf, EndAt}
 use Rattle.octets.specs.Laws.{split, lead-short, end-more, end-out}
 use Rattle.parts.specs.declared.Component.{Component}
+use Rattle.parts.specs.declared.Component.the-variants.{Prefix, RootDir, CurDir, ParentDir, Normal}
 use Rattle.parts.specs.declared.Element.{Element}
 use Rattle.parts.specs.declared.Item.{Item}
 use Rattle.parts.specs.declared.Item.the-variants.{Missing, Here}
 use Rattle.parts.specs.declared.Part.{Part}
 use Rattle.parts.specs.declared.Piece.{Piece}
 use Rattle.parts.specs.declared.Piece.the-variants.{Nothing, Found}
-use lib.Dec.{ltb}
-use borrow.Author.Tests.{ne-eqb, lt-ltb, le-ltb, ltb-true, ltb-false}
+use lib.Dec.{ltb, eqb}
+use borrow.Author.Tests.{ne-eqb, eqb-true, eqb-false, lt-ltb, le-ltb, ltb-true, ltb-false}
 use Rattle.parts.specs.declared.Kind.{Kind}
 use Rattle.parts.specs.declared.Kind.the-variants.{Dot, DotDot, Name}
 use Rattle.parts.specs.declared.Sort.{Sort}
@@ -466,3 +467,75 @@ pub lift-is : (r : Piece) (p : Part) (x : Component) → r ≡ Found p → x ≡
 lift-is r p x e f = rw (e, f)
 
 pub ruleset lifts = (lift-is)
+
+-- ---- what every element of a body is: a segment of at least one byte, without a separator, of a kind that a segment can have
+
+abbrev pub Bodily : Bool → Component → Type 0
+Bodily v (Prefix p) = ⊥
+Bodily v RootDir = ⊥
+Bodily v CurDir = v ≡ true
+Bodily v ParentDir = Unit
+Bodily v Normal = Unit
+
+pub record Good (sep : ℕ → Bool) (v : Bool) (s : List ℕ) (x : Element) : Type 0 where
+  pub some : 0 < x .len
+  pub inside : x .start + x .len ≤ length s
+  pub clear : (j : ℕ) → j < x .len → sep (getD s (x .start + j) 0) ≡ false
+  pub bodily : Bodily v (x .component)
+
+unfoldable pub Goods : (ℕ → Bool) → Bool → List ℕ → List Element → Type 0
+Goods sep v s [] = Unit
+Goods sep v s (x ∷ l) = Good sep v s x × Goods sep v s l
+
+-- a segment of n bytes that is a part has one, and its kind fits
+abbrev Sorted : Bool → ℕ → Sort → Type 0
+Sorted v n Skip = Unit
+Sorted v n (Is k) = (0 < n) × Bodily v (componentOf k)
+
+sorted : (v : Bool) (n a b : ℕ) → Sorted v n (sortBy v n a b)
+unfolding sortBy
+sorted v zero a b = tt
+sorted v (suc zero) a b = split (eqb a 46) (λ e. rw e (split v (λ f. rw f (omega arith, refl)) (λ f. rw f tt))) (λ e. rw e (omega arith, tt))
+sorted v (suc (suc zero)) a b = split (eqb a 46) (λ e. rw e (split (eqb b 46) (λ f. rw f (omega arith, tt)) (λ f. rw f (omega arith, tt)))) (λ e. rw e (omega arith, tt))
+sorted v (suc (suc (suc n))) a b =
+    split (eqb a 46)
+    (λ e. rw (← sort-long v (suc (suc (suc n))) a b (λ z. omega arith) (λ z. omega arith) (λ z. omega arith) (eqb-true a 46 e)) (omega arith, tt))
+    (λ e. rw (← sort-plain v (suc (suc (suc n))) a b (λ z. omega arith) (eqb-false a 46 e)) (omega arith, tt))
+
+module _ (sep : ℕ → Bool) where
+  lead-clear : (xs : List ℕ) (j : ℕ) → j < length (lead sep xs) → sep (getD xs j 0) ≡ false
+  unfolding lead
+  lead-clear [] j h = absurd (not-suc-le-zero h)
+  lead-clear (x ∷ xs) zero h = split (sep x) (λ e. absurd (not-suc-le-zero (rw e at h))) (λ e. e)
+  lead-clear (x ∷ xs) (suc j) h = split (sep x) (λ e. absurd (not-suc-le-zero (rw e at h))) (λ e. lead-clear xs j (le-of-suc-le-suc (rw e at h)))
+
+  module _ (v : Bool) (s : List ℕ) where
+    -- the segment at place i, where xs stands, before good elements
+    put-good : (i : ℕ) (xs : List ℕ) (l : List Element) → drop i s ≡ xs → Goods sep v s l → (q : Sort) → Sorted v (length (lead sep xs)) q → Goods sep v s (put q i (length (lead sep xs)) l)
+    unfolding Goods
+    put-good i xs l e u Skip h = u
+    put-good i xs l e u (Is k) h = (
+      record {
+        some = h .0;
+        inside = omega (arith, h .0, lead-short sep xs, ap length e, length-drop i s);
+        clear = λ j m. ap sep (sym (getD-drop i s j 0) ∙ ap (λ (w : List ℕ). getD w j 0) e) ∙ lead-clear xs j m;
+        bodily = h .1;
+      },
+      u,
+    )
+
+    segment-good : (i : ℕ) (xs : List ℕ) (l : List Element) → drop i s ≡ xs → Goods sep v s l → Goods sep v s (put (sortOf v (lead sep xs)) i (length (lead sep xs)) l)
+    segment-good i xs l e u = put-good i xs l e u (sortOf v (lead sep xs)) (sorted v (length (lead sep xs)) (getD (lead sep xs) 0 0) (getD (lead sep xs) 1 0))
+
+    rest-good : (i : ℕ) (xs : List ℕ) → drop i s ≡ xs → Goods sep v s (rest sep v i xs)
+    unfolding rest Goods
+    rest-good i [] e = tt
+    rest-good i (x ∷ xs) e =
+        let d : drop (suc i) s ≡ xs = rw (← add-one i, ← drop-drop 1 i s) (ap (drop 1) e) in
+        split (sep x)
+        (λ f. rw f (segment-good (suc i) xs _ d (rest-good (suc i) xs d)))
+        (λ f. rw f (rest-good (suc i) xs d))
+
+    pub from-good : (i : ℕ) → Goods sep v s (from sep v s i)
+    unfolding from
+    from-good i = segment-good i (drop i s) _ refl (rest-good i (drop i s) refl)

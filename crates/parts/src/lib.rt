@@ -108,7 +108,8 @@ fn sort_at(k: Seps, s: &[u8], at: usize, end: usize) -> Sort
             if dot_counts(k) {
                 return Sort::Is(Kind::Dot);
             }
-            return Sort::Skip;
+            let hidden = Sort::Skip;
+            return hidden;
         }
         if len == 2 {
             if s[at + 1] == 46 {

@@ -1,9 +1,18 @@
 // The public calls. Each takes the mode as a number and any bytes, and refuses what document 01 says is refused; none has
 // a `requires`. What a call promises is its definition in specs/, a chain of guards in front of what was asked for.
+mod absolutes;
+mod steps;
+mod tests;
 mod view;
 
+pub use absolutes::absolute;
 use answers::Reply;
 use prefixes::Parsed;
+pub use steps::Cursor;
+pub use steps::Stepped;
+pub use steps::Taken;
+pub use tests::has_root;
+pub use tests::is_absolute;
 pub use view::ancestor;
 pub use view::extension;
 pub use view::file_name;

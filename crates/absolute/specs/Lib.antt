@@ -1,0 +1,4 @@
+pub mod Absolute
+pub mod Leaves
+pub mod Laws
+pub mod Examples

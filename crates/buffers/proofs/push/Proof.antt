@@ -1,0 +1,42 @@
+use borrow.Author.Needs.{needs}
+use native.Mathlib.Omega.{arith}
+use mathlib.Core.Path.{refl}
+use Rattle.buffers.specs.Laws.{over-push}
+use Rattle.buffers.proofs.push.Statement.{statement}
+use Rattle.buffers.proofs.push.Tie as tie
+use Rattle.buffers.proofs.push.Reads as reads
+use Rattle.buffers.proofs.push.Lts as lts
+use Rattle.buffers.proofs.copy.Reads as copy-reads
+
+-- src/lib.rt:29:10
+sub-copy : tie.Need-sub-copy
+sub-copy c = search needs
+
+-- src/lib.rt:29:10
+part-copy-start : tie.Need-part-copy-start
+part-copy-start c = search needs
+
+-- src/lib.rt:29:10
+part-copy-end : tie.Need-part-copy-end
+part-copy-end c = search needs
+
+-- src/lib.rt:29:5
+copy-requires : tie.Need-copy-requires
+copy-requires c κs = search needs
+
+-- src/lib.rt:30:5
+add-result : tie.Need-add-result
+add-result c = search needs
+
+-- src/lib.rt:24:1
+same-length : tie.Need-same-length
+same-length c = search needs
+
+-- src/lib.rt:24:1
+returns : tie.Need-returns
+returns c = (refl, over-push _ _ _ (c .before .before .before .before .before .before .args .n) (c .before .before .copy .ensures) (omega arith))
+
+pub push-spec : {M : Type 1} → statement M
+push-spec =
+    tie.close
+    (tie.spec sub-copy part-copy-start part-copy-end copy-requires add-result same-length returns)

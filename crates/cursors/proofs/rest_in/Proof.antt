@@ -1,0 +1,15 @@
+use borrow.Author.Needs.{needs}
+use Rattle.cursors.specs.Laws.{cursors}
+use Rattle.cursors.proofs.rest_in.Statement.{statement}
+use Rattle.cursors.proofs.rest_in.Tie as tie
+
+pub rest-in-spec : {M : Type 1} → statement M
+rest-in-spec =
+    tie.close
+    (tie.spec
+    (λ c κs. search (needs, cursors))
+    (λ c κs. search (needs, cursors))
+    (λ c. search (needs, cursors))
+    (λ c. search (needs, cursors))
+    (λ c κs. search (needs, cursors))
+    (λ c. search (needs, cursors)))

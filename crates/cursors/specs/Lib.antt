@@ -1,0 +1,3 @@
+pub mod Rest
+pub mod Leaves
+pub mod Laws
