@@ -20,7 +20,7 @@ use Rattle.parts.specs.declared.Item.the-variants.{Missing, Here}
 use Rattle.parts.specs.Elements.{nthOf, nthBackOf, startOr, endOr, Upto}
 use Rattle.parts.specs.Laws.{upto-nth}
 use Rattle.components.specs.declared.Start.{Start}
-use Rattle.components.specs.List.{dotAt, isDisk, isRoot, startOf, wholeOf, listOf}
+use Rattle.components.specs.List.{dotAt, isDisk, startOf, wholeOf, listOf}
 use Rattle.components.specs.Leaves.{OpenAt, CountAt}
 use Rattle.components.specs.Laws.{whole-list, list-upto}
 use Rattle.cursors.specs.declared.Left.{Left}
@@ -28,7 +28,7 @@ use Rattle.cursors.specs.declared.Left.the-variants.{Beyond, Spent, Some
 use Rattle.cursors.specs.declared.Span.{Span}
 use Rattle.cursors.specs.declared.Remains.{Remains}
 use Rattle.cursors.specs.declared.Remains.the-variants.{Beyond as TooMany, Is as Rests}
-use Rattle.cursors.specs.Rest.{leftOf, span, prefixKind, isPrefix, leftEnd, rightEnd, emptyAt, onDisk, dotted, behindDot, restOf, restAsked}
+use Rattle.cursors.specs.Rest.{leftOf, span, prefixKind, isPrefix, leftEnd, rightEnd, emptyAt, onDisk, isBare, dotted, behindDot, restOf, restAsked}
 use Rattle.cursors.specs.Leaves.{In}
 
 -- `left_of`, `left_in`
@@ -145,12 +145,12 @@ module _ (h : Start) (s : List ℕ) (b : Bool) (e : b ≡ onDisk (h .prefix)) wh
   unfolding dotted
   dotted-not n = rw (← e, n)
 
-  module _ (y : b ≡ true) (r : Bool) (f : r ≡ isRoot (h .dir)) where
-    pub dotted-root : r ≡ true → false ≡ dotted h s
+  module _ (y : b ≡ true) (r : Bool) (f : r ≡ isBare (h .dir)) where
+    pub dotted-root : r ≡ false → false ≡ dotted h s
     unfolding dotted
     dotted-root z = rw (← e, y, ← f, z)
 
-    pub dotted-dot : (d : Bool) → r ≡ false → d ≡ dotAt (h .seps) s (h .end) → d ≡ dotted h s
+    pub dotted-dot : (d : Bool) → r ≡ true → d ≡ dotAt (h .seps) s (h .end) → d ≡ dotted h s
     unfolding dotted
     dotted-dot d n g = g ∙ rw (← e, y, ← f, n)
 

@@ -13,13 +13,17 @@ use Rattle.parts.specs.declared.Element.{Element}
 use Rattle.parts.specs.declared.Item.{Item}
 use Rattle.parts.specs.declared.Item.the-variants.{Missing, Here}
 use Rattle.parts.specs.Elements.{nthOf, nthBackOf, startOr, endOr}
+use Rattle.components.specs.declared.Dir.{Dir}
+use Rattle.components.specs.declared.Dir.the-variants.{Bare, Root, Implied, Dot}
 use Rattle.components.specs.declared.Start.{Start}
+use Rattle.answers.specs.declared.View.{View}
+use Rattle.answers.specs.Reply.{seen}
 use Rattle.cursors.specs.declared.Span.{Span}
 use Rattle.cursors.specs.declared.Left.{Left}
 use Rattle.cursors.specs.declared.Left.the-variants.{Beyond, Spent, Some}
 use Rattle.cursors.specs.declared.Remains.{Remains}
 use Rattle.cursors.specs.declared.Remains.the-variants.{Beyond as TooMany, Is as Rests}
-use Rattle.components.specs.List.{dotAt, isDisk, isRoot, startOf, listOf}
+use Rattle.components.specs.List.{dotAt, isDisk, startOf, listOf}
 
 -- "more components taken than the path has"; "f + b equal to the list's length"; else some of the n are left
 unfoldable pub leftOf : ℕ → ℕ → ℕ → Left
@@ -27,6 +31,10 @@ leftOf n f b = cond (ltb n (f + b)) Beyond (cond (eqb (f + b) n) Spent Some)
 
 abbrev pub span : ℕ → ℕ → Span
 span a e = record { start = a; end = e }
+
+-- as start and length
+abbrev pub viewOf : Span → View
+viewOf w = seen (w .start) (w .end - w .start)
 
 abbrev pub prefixKind : Component → Bool
 prefixKind (Prefix p) = true
@@ -56,8 +64,14 @@ abbrev pub onDisk : Parsed → Bool
 onDisk Nothing = false
 onDisk (Is p) = isDisk p
 
+abbrev pub isBare : Dir → Bool
+isBare Bare = true
+isBare Root = false
+isBare Implied = false
+isBare Dot = false
+
 unfoldable pub dotted : Start → List ℕ → Bool
-dotted h s = cond (onDisk (h .prefix)) (cond (isRoot (h .dir)) false (dotAt (h .seps) s (h .end))) false
+dotted h s = cond (onDisk (h .prefix)) (cond (isBare (h .dir)) (dotAt (h .seps) s (h .end)) false) false
 
 -- "yet while f = 0, or f = 1, and no later component remains, the right end is behind that dot (not when a back step took the prefix)", of n
 unfoldable pub behindDot : Bool → ℕ → ℕ → ℕ → Bool

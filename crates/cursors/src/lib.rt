@@ -1,4 +1,5 @@
 // What a counted cursor finds in a path's list: whether anything is left, and the part of the path that no step has taken.
+use components::Dir;
 use components::Start;
 use octets::Seps;
 use parts::Component;
@@ -9,7 +10,7 @@ ghost use Prim.Native.Nat.{ℕ, _+_, _-_, _^_, _<_, _≤_};
 ghost use lib.ListN.{length};
 ghost use Rattle.parts.specs.Elements.{nthOf, nthBackOf, startOr, endOr};
 ghost use Rattle.components.specs.List.{wholeOf, listOf, startOf};
-ghost use Rattle.cursors.specs.Rest.{leftOf, prefixKind, isPrefix, leftEnd, rightEnd, emptyAt, onDisk, dotted, behindDot, restOf, restAsked};
+ghost use Rattle.cursors.specs.Rest.{leftOf, prefixKind, isPrefix, leftEnd, rightEnd, emptyAt, onDisk, isBare, dotted, behindDot, restOf, restAsked};
 ghost use Rattle.cursors.specs.Leaves.{In};
 
 // Whether a cursor has taken more than there is, all there is, or less.
@@ -157,8 +158,19 @@ fn on_disk(p: Parsed) -> bool
     }
 }
 
+fn is_bare(d: Dir) -> bool
+    ensures { λ r. ⌜ r ≡ isBare d ⌝ }
+{
+    match d {
+        Dir::Bare => true,
+        Dir::Root => false,
+        Dir::Implied => false,
+        Dir::Dot => false,
+    }
+}
+
 // Whether a Disk prefix with no root is followed by a segment `.`, which belongs to no component.
-fn is_dotted(h: Start, s: &[u8]) -> bool
+pub fn is_dotted(h: Start, s: &[u8]) -> bool
     ensures { λ r. ⌜ r ≡ dotted h (now (s .entry)) ⌝ }
 {
     let p = h.prefix;
@@ -166,10 +178,9 @@ fn is_dotted(h: Start, s: &[u8]) -> bool
     let k = h.seps;
     let e = h.end;
     if on_disk(p) {
-        if components::is_root(d) {
-            return false;
+        if is_bare(d) {
+            return components::dot_at(k, s, e);
         }
-        return components::dot_at(k, s, e);
     }
     false
 }

@@ -1,3 +1,2 @@
 pub mod Examples
 pub mod Walks
-pub mod Rests

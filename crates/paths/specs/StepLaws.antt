@@ -33,7 +33,7 @@ use Rattle.cursors.specs.Laws.{beyond-says, spent-says, some-says, toomany-says
 use Rattle.paths.specs.declared.steps.Cursor.{Cursor}
 use Rattle.paths.specs.declared.steps.Taken.the-variants.{Is as Took}
 use Rattle.paths.specs.declared.steps.Stepped.{Stepped}
-use Rattle.paths.specs.Steps.{refusedStep, tookAt, isHere, stepAsked, nextIn, nextBackIn, nextCall, nextBackCall, viewOf, restFor, restCall}
+use Rattle.paths.specs.Steps.{refusedStep, tookAt, isHere, stepAsked, nextIn, nextBackIn, nextCall, nextBackCall, restFor, restCall}
 
 -- `took`
 pub took-none : (i : Item) (c : Cursor) (r : Stepped) → i ≡ Missing → r ≡ refusedStep c Done → r ≡ tookAt i c

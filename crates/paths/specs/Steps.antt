@@ -9,15 +9,13 @@ use Rattle.octets.specs.declared.Seps.{Seps}
 use Rattle.answers.specs.declared.Reply.{Reply}
 use Rattle.answers.specs.declared.Reply.the-variants.{Done, Cursor as TooMany}
 use Rattle.answers.specs.declared.View.{View}
-use Rattle.answers.specs.Reply.{seen}
 use Rattle.answers.specs.Outcome.{Outcome, refuse, result, inMode, short, taken, present}
 use Rattle.parts.specs.declared.Element.{Element}
 use Rattle.parts.specs.declared.Item.{Item}
 use Rattle.parts.specs.declared.Item.the-variants.{Missing, Here}
 use Rattle.parts.specs.Elements.{nthOf, nthBackOf}
 use Rattle.components.specs.List.{startOf, listOf}
-use Rattle.cursors.specs.declared.Span.{Span}
-use Rattle.cursors.specs.Rest.{dotted, restOf}
+use Rattle.cursors.specs.Rest.{viewOf, dotted, restOf}
 use Rattle.paths.specs.declared.steps.Cursor.{Cursor}
 use Rattle.paths.specs.declared.steps.Taken.the-variants.{Nothing, Is}
 use Rattle.paths.specs.declared.steps.Stepped.{Stepped}
@@ -52,10 +50,6 @@ nextCall c s = inMode (c .mode) (short s (nextIn (listOf (sepsOf (c .mode)) s) c
 
 unfoldable pub nextBackCall : Cursor → List ℕ → Outcome Stepped
 nextBackCall c s = inMode (c .mode) (short s (nextBackIn (listOf (sepsOf (c .mode)) s) c))
-
--- the rest, as start and length
-abbrev pub viewOf : Span → View
-viewOf w = seen (w .start) (w .end - w .start)
 
 unfoldable pub restFor : Seps → List ℕ → ℕ → ℕ → Outcome View
 restFor k s f b = taken f b (length (listOf k s)) (result (viewOf (restOf (dotted (startOf k s) s) (listOf k s) f b)))

@@ -39,9 +39,10 @@ use Rattle.components.specs.List.{sepAt, dotAt, innerSeps, behindPrefix, dirOf,
 use Rattle.components.specs.Leaves.{OpenAt}
 use Rattle.components.specs.Laws.{begin-is, dot-past, dot-not, dot-end, dot-sep}
 use Rattle.prefixes.specs.Cut.{prefix-cut}
-use Rattle.views.specs.Leaves.{leftOf, headUp}
-use Rattle.views.specs.Views.{onDisk, isBare, dotBehind, dotDisk, cutOf, climbs, upOf, parentOf, ancestorOf}
-use Rattle.views.specs.Laws.{climbs-few, up-on, stays, head-alone, ends-at, alone as head-lone, dot-in, parted, cut-last, whole-left, dot-same, drive-alone, kind-leaves}
+use Rattle.views.specs.Leaves.{cutOf, upBy, leftOf, headUp}
+use Rattle.views.specs.Views.{climbs, restBack, parentOf, ancestorOf}
+use Rattle.cursors.specs.Rest.{onDisk, isBare, dotted}
+use Rattle.views.specs.Laws.{climbs-few, up-on, up-rest, stays, head-alone, ends-at, alone as head-lone, dot-in, parted, cut-last, whole-left, dot-same, drive-alone, kind-leaves}
 
 -- ---- over lists: the ancestor one further is the parent of the list without its last n components
 
@@ -68,15 +69,15 @@ module _ (l : List Element) (n : ℕ) (h : n ≤ length l) where
   cut-front dot b = rw (back-front b, same-end b)
 
 module _ (dot : Bool) (l : List Element) (n : ℕ) where
-  pub next-parent : climbs l n ≡ true → upOf dot l (n + 1) ≡ upOf dot (take (length l - n) l) 1
-  unfolding upOf climbs
+  pub next-parent : climbs l n ≡ true → upBy dot l (n + 1) ≡ upBy dot (take (length l - n) l) 1
+  unfolding upBy climbs
   next-parent e =
       let f = climbs-few l n e in
       let g : nthBackOf (take (length l - n) l) 0 ≡ nthBackOf l n = back-front l n f 0 ∙ ap (nthBackOf l) (omega arith) in
       rw (cut-front l n f dot 1, g, add-one, e)
 
-  pub next-absent : climbs l n ≡ false → upOf dot l (n + 1) ≡ refuse Absent
-  unfolding upOf climbs guard
+  pub next-absent : climbs l n ≡ false → upBy dot l (n + 1) ≡ refuse Absent
+  unfolding upBy climbs guard
   next-absent e = rw (add-one, e)
 
 -- ---- the last part of a list between two places, found from its end
@@ -190,7 +191,7 @@ disk-rootless Nothing h = absurd (false≢true h)
 disk-rootless (Is p) h = h
 
 -- there, the dot is CurDir, or stands behind the drive
-dot-sum : (k : Seps) (s : List ℕ) (p : Parsed) → rootless p ≡ true → sepAt k s (endOfPrefix p) ≡ false → dirLen (dirOf k p s (endOfPrefix p)) + cond (cond (onDisk p) (cond (isBare (dirOf k p s (endOfPrefix p))) (dotAt k s (endOfPrefix p)) false) false) 1 0 ≡ cond (dotAt k s (endOfPrefix p)) 1 0
+dot-sum : (k : Seps) (s : List ℕ) (p : Parsed) → rootless p ≡ true → sepAt k s (endOfPrefix p) ≡ false → dirLen (dirOf k p s (endOfPrefix p)) + cond (cond (onDisk p) (cond (isBare (dirOf k p s (endOfPrefix p))) (dotAt (innerSeps k p) s (endOfPrefix p)) false) false) 1 0 ≡ cond (dotAt k s (endOfPrefix p)) 1 0
 unfolding dirOf
 dot-sum k s Nothing h e = rw e (split (dotAt k s 0) (λ y. rw y) (λ y. rw y))
 dot-sum k s (Is (Verbatim n)) h e = absurd (false≢true h)
@@ -218,7 +219,7 @@ module _ (k : Seps) (v : dots k ≡ false) (s : List ℕ) where
 
   -- e is where the head ends, with the dot behind a drive, or where a part ends
   abbrev Good : ℕ → Type 0
-  Good e = (e ≡ startOf k s .at + cond (dotDisk k s) 1 0) ⊎ ((startOf k s .at < e) × (bodyTo e ≡ [] → ⊥))
+  Good e = (e ≡ startOf k s .at + cond (dotted (startOf k s) s) 1 0) ⊎ ((startOf k s .at < e) × (bodyTo e ≡ [] → ⊥))
 
   at-is : startOf k s .at ≡ endOfPrefix (prefixIn k s) + dirLen (dirOf k (prefixIn k s) s (endOfPrefix (prefixIn k s)))
   unfolding startOf
@@ -226,8 +227,8 @@ module _ (k : Seps) (v : dots k ≡ false) (s : List ℕ) where
 
   -- where no separator follows no prefix or a drive: the head ends behind the dot, if there is one
   module _ (r : rootless (prefixIn k s) ≡ true) (n : sepAt k s (endOfPrefix (prefixIn k s)) ≡ false) where
-    head-cut : startOf k s .at + cond (dotDisk k s) 1 0 ≡ endOfPrefix (prefixIn k s) + cond (dotAt k s (endOfPrefix (prefixIn k s))) 1 0
-    unfolding startOf dotDisk dotBehind
+    head-cut : startOf k s .at + cond (dotted (startOf k s) s) 1 0 ≡ endOfPrefix (prefixIn k s) + cond (dotAt k s (endOfPrefix (prefixIn k s))) 1 0
+    unfolding startOf dotted
     head-cut = omega (arith, dot-sum k s (prefixIn k s) r n)
 
     plain-at : dotAt k s (endOfPrefix (prefixIn k s)) ≡ false → startOf k s .at ≡ endOfPrefix (prefixIn k s)
@@ -265,12 +266,13 @@ module _ (k : Seps) (v : dots k ≡ false) (s : List ℕ) where
         (λ y. rw (sep-take k s e c (endOfPrefix (prefixIn k s)) sep-before, y))
         (λ y. rw (sep-take k s e c (endOfPrefix (prefixIn k s)) sep-before, y) (behind-take k s e (prefixIn k s) (λ r. dots-same r y)))
 
-    behind-same : dotBehind k (startOf k s) (take e s) ≡ dotBehind k (startOf k s) s
-    unfolding dotBehind startOf
+    behind-same : dotted (startOf k s) (take e s) ≡ dotted (startOf k s) s
+    unfolding dotted startOf
     behind-same =
         split (onDisk (prefixIn k s))
-        (λ x. split (isBare (startOf k s .dir))
-        (λ y. rw (x, y) (dots-same (disk-rootless (prefixIn k s) x) (bare-plain y)))
+        (λ x. let r = disk-rootless (prefixIn k s) x in
+        split (isBare (startOf k s .dir))
+        (λ y. rw (x, y, inner-same k (prefixIn k s) r) (dots-same r (bare-plain y)))
         (λ y. rw (x, y)))
         (λ x. rw x)
 
@@ -283,8 +285,7 @@ module _ (k : Seps) (v : dots k ≡ false) (s : List ℕ) where
       unfolding listOf wholeOf bodyList leftOf within
       list-take = rw start-take
 
-      disk-take : dotDisk k (take e s) ≡ dotDisk k s
-      unfolding dotDisk
+      disk-take : dotted (startOf k (take e s)) (take e s) ≡ dotted (startOf k s) s
       disk-take = rw start-take behind-same
 
   -- ---- the list up to a place, and where it ends
@@ -293,35 +294,35 @@ module _ (k : Seps) (v : dots k ≡ false) (s : List ℕ) where
     inside : e ≤ length s
     good : Good e
 
-  head-end : cutOf (dotDisk k s) (headList (startOf k s)) 0 ≡ startOf k s .at + cond (dotDisk k s) 1 0
+  head-end : cutOf (dotted (startOf k s) s) (headList (startOf k s)) 0 ≡ startOf k s .at + cond (dotted (startOf k s) s) 1 0
   unfolding cutOf
   head-end =
       let o = opened in
-      split (dotDisk k s)
+      split (dotted (startOf k s) s)
       (λ y. rw (ends-at k s (startOf k s) o, y, head-lone k s (startOf k s) o (sym (dot-same k s (startOf k s) o) ∙ y)))
       (λ y. rw (ends-at k s (startOf k s) o, y))
 
   -- behind the head nothing but the dot
-  drive-skip : dotBehind k (startOf k s) s ≡ true → bodyTo (startOf k s .at + 1) ≡ []
-  unfolding dotBehind startOf
+  drive-skip : dotted (startOf k s) s ≡ true → bodyTo (startOf k s .at + 1) ≡ []
+  unfolding dotted startOf
   drive-skip y =
       let p = prefixIn k s in
       let i = endOfPrefix (prefixIn k s) in
-      let a = drive-alone k s p (dirOf k p s i) i y in
+      let a = drive-alone (innerSeps k p) s p (dirOf k p s i) i y in
       let z : startOf k s .at ≡ i = omega (arith, a .1) in
       let r : rootless p ≡ true = disk-rootless p (split (onDisk p) (λ x. x) (λ x. absurd (false≢true (rw x at y)))) in
       let l = dot-in k s (startOf k s) opened y in
-      rw (z, inner-same k p r) (dot-skip (isSep k) (dots k) s i (is-dot-sep k) v (omega arith) (dot-byte k s i (a .2)))
+      rw (z, inner-same k p r) (dot-skip (isSep k) (dots k) s i (is-dot-sep k) v (omega arith) (dot-byte (innerSeps k p) s i (a .2)))
 
-  head-bare : bodyTo (startOf k s .at + cond (dotDisk k s) 1 0) ≡ []
+  head-bare : bodyTo (startOf k s .at + cond (dotted (startOf k s) s) 1 0) ≡ []
   head-bare =
       let o = opened in
       let m = dot-same k s (startOf k s) o in
-      split (dotDisk k s)
+      split (dotted (startOf k s) s)
       (λ y. rw y (drive-skip (sym m ∙ y)))
       (λ y. rw y (within-none (isSep (startOf k s .seps)) (dots (startOf k s .seps)) s (startOf k s .at) (startOf k s .at + 0) (omega arith) (omega (arith, o .high))))
 
-  trim-head : (top : ℕ) → bodyTo top ≡ [] → Trimmed top (cutOf (dotDisk k s) (leftOf (startOf k s) s top) 0)
+  trim-head : (top : ℕ) → bodyTo top ≡ [] → Trimmed top (cutOf (dotted (startOf k s) s) (leftOf (startOf k s) s top) 0)
   unfolding leftOf
   trim-head top z =
       let o = opened in
@@ -329,7 +330,7 @@ module _ (k : Seps) (v : dots k ≡ false) (s : List ℕ) where
       rw (z, append-nil, head-end)
       (record {
         same = rw (head-bare, z);
-        inside = split (dotDisk k s) (λ y. rw y (dot-in k s (startOf k s) o (sym m ∙ y))) (λ y. rw y (omega (arith, o .high)));
+        inside = split (dotted (startOf k s) s) (λ y. rw y (dot-in k s (startOf k s) o (sym m ∙ y))) (λ y. rw y (omega (arith, o .high)));
         good = inl refl;
       })
 
@@ -337,11 +338,11 @@ module _ (k : Seps) (v : dots k ≡ false) (s : List ℕ) where
   unfolding leftOf
   same-left a b h = rw h
 
-  trim-part : (top : ℕ) → top ≤ length s → (q : Part) → Final (isSep (startOf k s .seps)) (dots (startOf k s .seps)) s (startOf k s .at) top q → Trimmed top (cutOf (dotDisk k s) (leftOf (startOf k s) s top) 0)
+  trim-part : (top : ℕ) → top ≤ length s → (q : Part) → Final (isSep (startOf k s .seps)) (dots (startOf k s .seps)) s (startOf k s .at) top q → Trimmed top (cutOf (dotted (startOf k s) s) (leftOf (startOf k s) s top) 0)
   trim-part top c q f =
       let o = opened in
       let sep = isSep (startOf k s .seps) in
-      let x : cutOf (dotDisk k s) (leftOf (startOf k s) s top) 0 ≡ q .start + q .len = rw (dot-same k s (startOf k s) o) (cut-last k s (startOf k s) o top (bodyTo (q .start)) (lift q) (f .is)) in
+      let x : cutOf (dotted (startOf k s) s) (leftOf (startOf k s) s top) 0 ≡ q .start + q .len = rw (dot-same k s (startOf k s) o) (cut-last k s (startOf k s) o top (bodyTo (q .start)) (lift q) (f .is)) in
       let a : bodyTo (q .start + q .len) ≡ [] → ⊥ = λ z. omega (arith, ap length (sym z ∙ f .same ∙ f .is), length-append (bodyTo (q .start)) (lift q ∷ [])) in
       let b : q .start + q .len ≤ length s = omega (arith, f .high) in
       rw x
@@ -351,7 +352,7 @@ module _ (k : Seps) (v : dots k ≡ false) (s : List ℕ) where
         good = inr (split (ltb (startOf k s .at) (q .start + q .len)) (λ t. ltb-true (startOf k s .at) (q .start + q .len) t) (λ t. absurd (a (within-none sep (dots (startOf k s .seps)) s (startOf k s .at) (q .start + q .len) (ltb-false (startOf k s .at) (q .start + q .len) t) b))), a);
       })
 
-  trim : (top : ℕ) → top ≤ length s → Trimmed top (cutOf (dotDisk k s) (leftOf (startOf k s) s top) 0)
+  trim : (top : ℕ) → top ≤ length s → Trimmed top (cutOf (dotted (startOf k s) s) (leftOf (startOf k s) s top) 0)
   trim top c = last-by (isSep (startOf k s .seps)) (dots (startOf k s .seps)) s (startOf k s .at) top c (trim-head top) (trim-part top c)
 
 -- ---- the parent of the one before
@@ -361,13 +362,13 @@ abbrev pub onView : Outcome View → (ℕ → Outcome View) → Outcome View
 onView (refuse r) f = refuse r
 onView (result v) f = f (v .len)
 
-parent-up : (k : Seps) (s : List ℕ) → parentOf k s ≡ upOf (dotDisk k s) (listOf k s) 1
-unfolding parentOf upOf climbs
-parent-up k s = refl
+parent-up : (k : Seps) (s : List ℕ) → parentOf k s ≡ upBy (dotted (startOf k s) s) (listOf k s) 1
+unfolding parentOf restBack climbs
+parent-up k s = sym (up-rest (listOf k s) 1 (dotted (startOf k s) s))
 
-ancestor-up : (n : ℕ) (k : Seps) (s : List ℕ) → ancestorOf (suc n) k s ≡ upOf (dotDisk k s) (listOf k s) (suc n)
-unfolding ancestorOf
-ancestor-up n k s = rw (ne-eqb (suc n) 0 (λ z. omega arith))
+ancestor-up : (n : ℕ) (k : Seps) (s : List ℕ) → ancestorOf (suc n) k s ≡ upBy (dotted (startOf k s) s) (listOf k s) (suc n)
+unfolding ancestorOf restBack
+ancestor-up n k s = rw (ne-eqb (suc n) 0 (λ z. omega arith)) (sym (up-rest (listOf k s) (suc n) (dotted (startOf k s) s)))
 
 empty-list : (k : Seps) → listOf k [] ≡ []
 unfolding listOf wholeOf headList bodyList startOf dirOf dotAt sepAt from rest lead sortBy prefixOf begins drive isLetter classOf
@@ -379,7 +380,7 @@ empty-list OnlyBack = refl
 lone-next : (k : Seps) (n : ℕ) → headUp Lone (suc n) ≡ ancestorOf n k []
 unfolding ancestorOf nthBackOf
 lone-next k zero = refl
-lone-next k (suc n) = rw (ancestor-up n k [], empty-list k, ne-eqb (suc (suc n)) 1 (λ z. omega arith)) (sym (stays (dotDisk k []) [] n refl))
+lone-next k (suc n) = rw (ancestor-up n k [], empty-list k, ne-eqb (suc (suc n)) 1 (λ z. omega arith)) (sym (stays (dotted (startOf k []) []) [] n refl))
 
 on-same : (o : Outcome View) (f g : ℕ → Outcome View) → ((e : ℕ) → f e ≡ g e) → onView o f ≡ onView o g
 on-same (refuse r) f g h = refl
@@ -421,12 +422,12 @@ module _ (k : Seps) (v : dots k ≡ false) (stable : (s : List ℕ) (e : ℕ) �
     front-head n z =
         let o = opened k v s in
         let l : listOf k s ≡ headList (startOf k s) = whole-left k s (startOf k s) o ∙ rw (z, append-nil) in
-        let b : parentOf k s ≡ headUp (startOf k s .dir) 1 = parent-up k s ∙ rw l (head-alone k s (startOf k s) o (dotDisk k s) 0) in
-        ancestor-up n k s ∙ rw (l, head-alone k s (startOf k s) o (dotDisk k s) n, b) (case-dir (startOf k s .dir) n)
+        let b : parentOf k s ≡ headUp (startOf k s .dir) 1 = parent-up k s ∙ rw l (head-alone k s (startOf k s) o (dotted (startOf k s) s) 0) in
+        ancestor-up n k s ∙ rw (l, head-alone k s (startOf k s) o (dotted (startOf k s) s) n, b) (case-dir (startOf k s .dir) n)
 
     module _ (q : Part) (f : Final (isSep (startOf k s .seps)) (dots (startOf k s .seps)) s (startOf k s .at) (length s) q) where
       cut : ℕ
-      cut = cutOf (dotDisk k s) (leftOf (startOf k s) s (q .start)) 0
+      cut = cutOf (dotted (startOf k s) s) (leftOf (startOf k s) s (q .start)) 0
 
       trimmed : Trimmed k v s (q .start) cut
       unfolding cut
@@ -436,19 +437,19 @@ module _ (k : Seps) (v : dots k ≡ false) (stable : (s : List ℕ) (e : ℕ) �
       unfolding leftOf
       split-list = whole-left k s (startOf k s) (opened k v s) ∙ parted k s (startOf k s) (opened k v s) (length s) (bodyTo k v s (q .start)) (lift q) (f .is)
 
-      up-part : (n : ℕ) → upOf (dotDisk k s) (listOf k s) (n + 1) ≡ upOf (dotDisk k s) (leftOf (startOf k s) s (q .start)) n
-      up-part n = rw split-list (up-on (leftOf (startOf k s) s (q .start)) (lift q) (kind-leaves (q .kind)) (dotDisk k s) n)
+      up-part : (n : ℕ) → upBy (dotted (startOf k s) s) (listOf k s) (n + 1) ≡ upBy (dotted (startOf k s) s) (leftOf (startOf k s) s (q .start)) n
+      up-part n = rw split-list (up-on (leftOf (startOf k s) s (q .start)) (lift q) (kind-leaves (q .kind)) (dotted (startOf k s) s) n)
 
-      rest-of : (n : ℕ) → upOf (dotDisk k s) (leftOf (startOf k s) s (q .start)) n ≡ ancestorOf n k (take cut s)
-      unfolding ancestorOf upOf climbs guard cut
+      rest-of : (n : ℕ) → upBy (dotted (startOf k s) s) (leftOf (startOf k s) s (q .start)) n ≡ ancestorOf n k (take cut s)
+      unfolding ancestorOf upBy climbs guard cut
       rest-of zero = rw (length-take-le cut s (trimmed .inside))
       rest-of (suc n) =
           let t = trimmed in
           let p = stable s cut (at-good k v s cut (t .inside) (t .good)) in
           sym (ancestor-up n k (take cut s) ∙ rw (disk-take k v s cut (t .inside) (t .good) p, list-take k v s cut (t .inside) (t .good) p, t .same))
 
-      none-taken : upOf (dotDisk k s) (leftOf (startOf k s) s (q .start)) 0 ≡ result (seen 0 cut)
-      unfolding upOf climbs guard cut
+      none-taken : upBy (dotted (startOf k s) s) (leftOf (startOf k s) s (q .start)) 0 ≡ result (seen 0 cut)
+      unfolding upBy climbs guard cut
       none-taken = refl
 
       front-part : (n : ℕ) → ancestorOf (suc n) k s ≡ onView (parentOf k s) (λ e. ancestorOf n k (take e s))

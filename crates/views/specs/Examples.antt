@@ -11,7 +11,8 @@ use Rattle.prefixes.specs.Prefix.{turned, begins, capital, drive, prefixOf}
 use Rattle.parts.specs.Body.{sortBy, rest, from}
 use Rattle.parts.specs.Elements.{nthOf, nthBackOf}
 use Rattle.components.specs.List.{sepAt, dotAt, dirOf, startOf, headList, bodyList, wholeOf, listOf}
-use Rattle.views.specs.Views.{dotBehind, dotDisk, cutOf, climbs, upOf, parentOf, ancestorOf, lastName, hasDot, lastDot, ofName, wholeSeen, stemSeen, extensionSeen, fileNameOf, fileStemOf, extensionOf}
+use Rattle.cursors.specs.Rest.{dotted, behindDot, leftEnd, emptyAt, restOf}
+use Rattle.views.specs.Views.{climbs, restBack, parentOf, ancestorOf, lastName, hasDot, lastDot, ofName, wholeSeen, stemSeen, extensionSeen, fileNameOf, fileStemOf, extensionOf}
 
 -- Parents: `/a/`: `/`; `/`: none; `a`: empty, at 0; empty: none; `./a`: `.`; W `C:.\a`: `C:.`; W `C:.`: none; W `C:a`: `C:`
 pub parents :
@@ -23,7 +24,7 @@ pub parents :
     × (parentOf Windows (67 ∷ 58 ∷ 46 ∷ 92 ∷ 97 ∷ []) ≡ result (seen 0 3))
     × (parentOf Windows (67 ∷ 58 ∷ 46 ∷ []) ≡ refuse Absent)
     × (parentOf Windows (67 ∷ 58 ∷ 97 ∷ []) ≡ result (seen 0 2))
-unfolding parentOf guard dotBehind dotDisk cutOf prefixOf turned begins capital drive classOf isLetter lead sortBy rest from nthOf nthBackOf sepAt dotAt dirOf startOf headList bodyList wholeOf listOf
+unfolding parentOf guard restBack dotted restOf behindDot leftEnd emptyAt prefixOf turned begins capital drive classOf isLetter lead sortBy rest from nthOf nthBackOf sepAt dotAt dirOf startOf headList bodyList wholeOf listOf
 parents = (refl, refl, refl, refl, refl, refl, refl, refl)
 
 -- Ancestors of `a//b/`: itself, untrimmed; `a`; empty; none. The empty path is its own ancestor 0.
@@ -33,7 +34,7 @@ pub ancestors :
     × (ancestorOf 2 Unix (97 ∷ 47 ∷ 47 ∷ 98 ∷ 47 ∷ []) ≡ result (seen 0 0))
     × (ancestorOf 3 Unix (97 ∷ 47 ∷ 47 ∷ 98 ∷ 47 ∷ []) ≡ refuse Absent)
     × (ancestorOf 0 Unix [] ≡ result (seen 0 0))
-unfolding ancestorOf upOf climbs guard dotBehind dotDisk cutOf lead sortBy rest from nthOf nthBackOf sepAt dotAt dirOf startOf headList bodyList wholeOf listOf
+unfolding ancestorOf restBack climbs guard dotted restOf behindDot leftEnd emptyAt lead sortBy rest from nthOf nthBackOf sepAt dotAt dirOf startOf headList bodyList wholeOf listOf
 ancestors = (refl, refl, refl, refl, refl)
 
 -- Names: of `.bashrc` all is stem; of `a.` the extension is there and empty, behind the dot; `.a.b` is `.a` and `b`; `...` is

@@ -18,7 +18,7 @@ use Rattle.octets.specs.declared.Seps.{Seps}
 use Rattle.answers.specs.declared.Reply.the-variants.{Absent}
 use Rattle.answers.specs.declared.View.{View}
 use Rattle.answers.specs.Reply.{refusedView, seen}
-use Rattle.answers.specs.Outcome.{Outcome, refuse, told, guard}
+use Rattle.answers.specs.Outcome.{Outcome, refuse, result, told, guard, present}
 use Rattle.prefixes.specs.declared.Prefix.{Prefix}
 use Rattle.prefixes.specs.declared.Prefix.the-variants.{Verbatim, VerbatimUnc, VerbatimDisk, DeviceNs, Unc, Disk}
 use Rattle.prefixes.specs.declared.Parsed.{Parsed}
@@ -34,7 +34,7 @@ use Rattle.parts.specs.declared.Piece.the-variants.{Nothing as None, Found}
 use Rattle.parts.specs.Body.{componentOf, dots}
 use Rattle.parts.specs.Elements.{nthOf, nthBackOf, endOr}
 use Rattle.parts.specs.Steps.{lift, within, LastAt}
-use Rattle.parts.specs.Laws.{last-none, last-found, back-last, back-on, back-past, back-inside}
+use Rattle.parts.specs.Laws.{last-none, last-found, back-last, back-on, back-past, back-nth, back-inside}
 use Rattle.components.specs.declared.Dir.{Dir}
 use Rattle.components.specs.declared.Dir.the-variants.{Bare, Root, Implied, Dot as Lone}
 use Rattle.components.specs.declared.Start.{Start}
@@ -43,23 +43,9 @@ use Rattle.components.specs.Leaves.{OpenAt}
 use Rattle.components.specs.Laws.{dot-past, whole-list}
 use Rattle.views.specs.declared.Reached.{Reached}
 use Rattle.views.specs.declared.Reached.the-variants.{Body, Head}
-use Rattle.views.specs.Views.{onDisk, isBare, dotBehind, dotDisk, cutOf, leavesKind, leaves, climbs, upOf, parentOf, ancestorOf, isNormal, named, lastName, hasDot, lastDot, ofName, wholeSeen, stemSeen, extensionSeen}
-use Rattle.views.specs.Leaves.{ViewAt, CutAt, leftOf, Steps, ClimbAt, headUp, isName, NameAt, dotIn, DotAt}
-
--- ---- `dot_disk`
-module _ (k : Seps) (h : Start) (s : List ℕ) (a : Bool) (e : a ≡ onDisk (h .prefix)) where
-  pub disk-none : a ≡ false → false ≡ dotBehind k h s
-  unfolding dotBehind
-  disk-none n = rw (← e, n)
-
-  module _ (y : a ≡ true) (b : Bool) (f : b ≡ isBare (h .dir)) where
-    pub disk-rooted : b ≡ false → false ≡ dotBehind k h s
-    unfolding dotBehind
-    disk-rooted n = rw (← e, y, ← f, n)
-
-    pub disk-dot : (r : Bool) → b ≡ true → r ≡ dotAt k s (h .end) → r ≡ dotBehind k h s
-    unfolding dotBehind
-    disk-dot r z g = g ∙ rw (← e, y, ← f, z)
+use Rattle.cursors.specs.Rest.{viewOf, span, onDisk, isBare, dotted, behindDot, leftEnd, emptyAt, restOf}
+use Rattle.views.specs.Views.{leavesKind, leaves, climbs, restBack, parentOf, ancestorOf, isNormal, named, lastName, hasDot, lastDot, ofName, wholeSeen, stemSeen, extensionSeen}
+use Rattle.views.specs.Leaves.{cutOf, upBy, ViewAt, CutAt, leftOf, Steps, ClimbAt, headUp, isName, NameAt, dotIn, DotAt}
 
 -- ---- steps back from a list
 
@@ -84,8 +70,8 @@ module _ (l : List Element) (p : Element) where
       rw (climbs-on e n, g)
 
   -- one that leaves taken off
-  pub up-on : leavesKind (p .component) ≡ true → (dot : Bool) (n : ℕ) → upOf dot (l ++ (p ∷ [])) (n + 1) ≡ upOf dot l n
-  unfolding upOf
+  pub up-on : leavesKind (p .component) ≡ true → (dot : Bool) (n : ℕ) → upBy dot (l ++ (p ∷ [])) (n + 1) ≡ upBy dot l n
+  unfolding upBy
   up-on e dot n = rw (cut-on dot n, add-one n, climbs-on e n)
 
 climbs-first : (l : List Element) (n : ℕ) → leaves (nthBackOf l 0) ≡ false → climbs l (suc n) ≡ false
@@ -136,9 +122,9 @@ module _ (sep : ℕ → Bool) (v : Bool) (s : List ℕ) (lo e n m : ℕ) (h : St
         let b : List Element = within sep v s lo (q .start) in
         let y : m ≡ m - 1 + 1 = omega arith in
         h dot a
-        ∙ ap (λ (x : List Element). upOf dot (a ++ x) m) (last-found f g .is)
-        ∙ ap (λ (x : List Element). upOf dot x m) (sym (append-assoc a b (lift q ∷ [])))
-        ∙ ap (upOf dot ((a ++ b) ++ (lift q ∷ []))) y
+        ∙ ap (λ (x : List Element). upBy dot (a ++ x) m) (last-found f g .is)
+        ∙ ap (λ (x : List Element). upBy dot x m) (sym (append-assoc a b (lift q ∷ [])))
+        ∙ ap (upBy dot ((a ++ b) ++ (lift q ∷ []))) y
         ∙ up-on (a ++ b) (lift q) (kind-leaves (q .kind)) dot (m - 1)
 
 pub climb-in : (sep : ℕ → Bool) (v : Bool) (s : List ℕ) (lo n : ℕ) (r : Reached) (e : ℕ) → ClimbAt sep v s lo n r → r ≡ Body e → e ≤ length s
@@ -189,16 +175,16 @@ unfolding dirOf
 dir-lone k s p i h = split (sepAt k s i) (λ e. absurd (false≢true (rw e at h))) (λ e. behind-lone k s p (rw e at h))
 
 -- where the last element of a list is none that leaves
-pub stays : (dot : Bool) (l : List Element) (n : ℕ) → leaves (nthBackOf l 0) ≡ false → upOf dot l (suc n) ≡ refuse Absent
-unfolding upOf guard
+pub stays : (dot : Bool) (l : List Element) (n : ℕ) → leaves (nthBackOf l 0) ≡ false → upBy dot l (suc n) ≡ refuse Absent
+unfolding upBy guard
 stays dot l n e = rw (climbs-first l n e)
 
-lone-up : (dot : Bool) (e n : ℕ) → upOf dot (dirPart Lone e) (suc n) ≡ headUp Lone (suc n)
-unfolding upOf guard climbs cutOf nthBackOf nthOf
+lone-up : (dot : Bool) (e n : ℕ) → upBy dot (dirPart Lone e) (suc n) ≡ headUp Lone (suc n)
+unfolding upBy guard climbs cutOf nthBackOf nthOf
 lone-up dot e zero = split dot (λ f. rw f) (λ f. rw f)
 lone-up dot e (suc n) = rw (climbs-past (dirPart Lone e) (suc (suc n)) (omega arith), ne-eqb (suc (suc n)) 1 (λ z. omega arith))
 
-head-up-of : (dot : Bool) (p : Parsed) (d : Dir) (e n : ℕ) → (isLone d ≡ true → p ≡ Nothing) → upOf dot (prefixPart p e ++ dirPart d e) (suc n) ≡ headUp d (suc n)
+head-up-of : (dot : Bool) (p : Parsed) (d : Dir) (e n : ℕ) → (isLone d ≡ true → p ≡ Nothing) → upBy dot (prefixPart p e ++ dirPart d e) (suc n) ≡ headUp d (suc n)
 unfolding nthBackOf nthOf
 head-up-of dot Nothing Bare e n f = stays dot [] n refl
 head-up-of dot (Is p) Bare e n f = stays dot (prefixPart (Is p) e) n refl
@@ -208,7 +194,7 @@ head-up-of dot Nothing Implied e n f = stays dot (dirPart Implied e) n refl
 head-up-of dot (Is p) Implied e n f = stays dot (prefixPart (Is p) e ++ dirPart Implied e) n refl
 head-up-of dot p Lone e n f = rw (f refl) (lone-up dot e n)
 
-pub head-alone : (k : Seps) (s : List ℕ) (h : Start) → OpenAt k s h → (dot : Bool) (n : ℕ) → upOf dot (headList h) (suc n) ≡ headUp (h .dir) (suc n)
+pub head-alone : (k : Seps) (s : List ℕ) (h : Start) → OpenAt k s h → (dot : Bool) (n : ℕ) → upBy dot (headList h) (suc n) ≡ headUp (h .dir) (suc n)
 unfolding headList startOf
 head-alone k s h o dot n = head-up-of dot (h .prefix) (h .dir) (h .end) n (rw (o .is) (dir-lone k s (prefixIn k s) (endOfPrefix (prefixIn k s))))
 
@@ -242,26 +228,26 @@ module _ (k : Seps) (s : List ℕ) (h : Start) (o : OpenAt k s h) where
   unfolding headList startOf
   ends-at = rw (o .is) (head-last (prefixIn k s) (dirOf k (prefixIn k s) s (endOfPrefix (prefixIn k s))))
 
-  pub alone : dotBehind k h s ≡ true → length (headList h) ≡ 1
-  unfolding headList dotBehind
-  alone y = drive-alone k s (h .prefix) (h .dir) (h .end) y .0
+  pub alone : dotted h s ≡ true → length (headList h) ≡ 1
+  unfolding headList dotted
+  alone y = drive-alone (h .seps) s (h .prefix) (h .dir) (h .end) y .0
 
-  pub dot-in : dotBehind k h s ≡ true → h .at + 1 ≤ length s
-  unfolding dotBehind startOf
+  pub dot-in : dotted h s ≡ true → h .at + 1 ≤ length s
+  unfolding dotted startOf
   dot-in y =
-      let a = drive-alone k s (h .prefix) (h .dir) (h .end) y in
+      let a = drive-alone (h .seps) s (h .prefix) (h .dir) (h .end) y in
       let b : h .at ≡ h .end + dirLen (h .dir) = rw (o .is) in
-      omega (arith, dot-inside k s (h .end) (a .2))
+      omega (arith, dot-inside (h .seps) s (h .end) (a .2))
 
-  module _ (b : Bool) (e : b ≡ dotBehind k h s) where
+  module _ (b : Bool) (e : b ≡ dotted h s) where
     pub head-fits : b ≡ true → length s * 1 < 2 ^ 63 → Fits w64 (h .at + 1)
     head-fits y w = record { fits = omega (arith, dot-in (sym e ∙ y)) }
 
-    pub head-dot : b ≡ true → CutAt (dotBehind k h s) (headList h) s (h .at + 1)
+    pub head-dot : b ≡ true → CutAt (dotted h s) (headList h) s (h .at + 1)
     unfolding cutOf
     head-dot y = record { is = rw (ends-at, alone (sym e ∙ y), ← e, y); inside = dot-in (sym e ∙ y) }
 
-    pub head-plain : b ≡ false → CutAt (dotBehind k h s) (headList h) s (h .at)
+    pub head-plain : b ≡ false → CutAt (dotted h s) (headList h) s (h .at)
     unfolding cutOf
     head-plain n = record { is = rw (ends-at, ← e, n) (omega arith); inside = o .high }
 
@@ -271,20 +257,20 @@ module _ (k : Seps) (s : List ℕ) (h : Start) (o : OpenAt k s h) where
     unfolding leftOf
     parted = rw (t, append-assoc)
 
-    later : dotBehind k h s ≡ true → (length (leftOf h s e) ≡ 0 + 1 → ⊥)
+    later : dotted h s ≡ true → (length (leftOf h s e) ≡ 0 + 1 → ⊥)
     later y = λ z. omega (arith, alone y, ap length parted, length-append (headList h ++ w) (p ∷ []), length-append (headList h) w)
 
-    pub cut-last : cutOf (dotBehind k h s) (leftOf h s e) 0 ≡ p .start + p .len
+    pub cut-last : cutOf (dotted h s) (leftOf h s e) 0 ≡ p .start + p .len
     unfolding cutOf
     cut-last =
         rw (back-last (leftOf h s e) (headList h ++ w) p parted)
-        (split (dotBehind k h s)
+        (split (dotted h s)
         (λ y. rw (y, ne-eqb (length (leftOf h s e)) (0 + 1) (later y)) (omega arith))
         (λ y. rw y (omega arith)))
 
   -- `end_before`
   module _ (e : ℕ) (p : Piece) (f : LastAt (isSep (h .seps)) (dots (h .seps)) s (h .at) e p) where
-    pub before-none : p ≡ None → (r : ℕ) → CutAt (dotBehind k h s) (headList h) s r → CutAt (dotBehind k h s) (leftOf h s e) s r
+    pub before-none : p ≡ None → (r : ℕ) → CutAt (dotted h s) (headList h) s r → CutAt (dotted h s) (leftOf h s e) s r
     unfolding leftOf
     before-none g r c = rw (last-none f g, append-nil) c
 
@@ -292,7 +278,7 @@ module _ (k : Seps) (s : List ℕ) (h : Start) (o : OpenAt k s h) where
       pub before-fits : Fits w64 (q .start + q .len)
       before-fits = let t = last-found f g in record { fits = omega arith }
 
-      pub before-part : CutAt (dotBehind k h s) (leftOf h s e) s (q .start + q .len)
+      pub before-part : CutAt (dotted h s) (leftOf h s e) s (q .start + q .len)
       before-part = let t = last-found f g in record { is = sym (cut-last e (within (isSep (h .seps)) (dots (h .seps)) s (h .at) (q .start)) (lift q) (t .is)); inside = omega arith }
 
   -- ---- `up`
@@ -300,51 +286,81 @@ module _ (k : Seps) (s : List ℕ) (h : Start) (o : OpenAt k s h) where
   unfolding wholeOf bodyList leftOf within
   whole-left = sym (whole-list k s h o) ∙ rw (take-length s)
 
-  pub dot-same : dotDisk k s ≡ dotBehind k h s
-  unfolding dotDisk
+  pub dot-same : dotted (startOf k s) s ≡ dotted h s
   dot-same = rw (o .is)
 
-  up-from : (n e m : ℕ) → Steps (within (isSep (h .seps)) (dots (h .seps)) s (h .at) (length s)) n (within (isSep (h .seps)) (dots (h .seps)) s (h .at) e) m → upOf (dotDisk k s) (listOf k s) n ≡ upOf (dotBehind k h s) (leftOf h s e) m
+  up-from : (n e m : ℕ) → Steps (within (isSep (h .seps)) (dots (h .seps)) s (h .at) (length s)) n (within (isSep (h .seps)) (dots (h .seps)) s (h .at) e) m → upBy (dotted (startOf k s) s) (listOf k s) n ≡ upBy (dotted h s) (leftOf h s e) m
   unfolding Steps leftOf
-  up-from n e m t = rw (dot-same, whole-left) (t (dotBehind k h s) (headList h))
+  up-from n e m t = rw (dot-same, whole-left) (t (dotted h s) (headList h))
 
-  up-head-from : (n m : ℕ) → Steps (within (isSep (h .seps)) (dots (h .seps)) s (h .at) (length s)) n [] m → upOf (dotDisk k s) (listOf k s) n ≡ upOf (dotBehind k h s) (headList h) m
+  up-head-from : (n m : ℕ) → Steps (within (isSep (h .seps)) (dots (h .seps)) s (h .at) (length s)) n [] m → upBy (dotted (startOf k s) s) (listOf k s) n ≡ upBy (dotted h s) (headList h) m
   unfolding Steps leftOf
-  up-head-from n m t = rw (dot-same, whole-left) (t (dotBehind k h s) (headList h) ∙ rw append-nil)
+  up-head-from n m t = rw (dot-same, whole-left) (t (dotted h s) (headList h) ∙ rw append-nil)
 
   module _ (n : ℕ) (c : Reached) (a : ClimbAt (isSep (h .seps)) (dots (h .seps)) s (h .at) n c) where
-    pub up-body : (e r : ℕ) → c ≡ Body e → CutAt (dotBehind k h s) (leftOf h s e) s r → ViewAt (upOf (dotDisk k s) (listOf k s) n) s (seen 0 r)
-    unfolding upOf told guard climbs
+    pub up-body : (e r : ℕ) → c ≡ Body e → CutAt (dotted h s) (leftOf h s e) s r → ViewAt (upBy (dotted (startOf k s) s) (listOf k s) n) s (seen 0 r)
+    unfolding upBy told guard climbs
     up-body e r g t =
         let m = rw g at (a .is) in
         record { is = rw (t .is) (sym (ap (told refusedView) (up-from n e 0 (m .0)))); inside = omega (arith, t .inside) }
 
-    pub up-head : (m : ℕ) (r : View) → c ≡ Head m → r ≡ told refusedView (headUp (h .dir) m) → ViewAt (upOf (dotDisk k s) (listOf k s) n) s r
+    pub up-head : (m : ℕ) (r : View) → c ≡ Head m → r ≡ told refusedView (headUp (h .dir) m) → ViewAt (upBy (dotted (startOf k s) s) (listOf k s) n) s r
     up-head m r g e =
         let t = rw g at (a .is) in
         let y : m ≡ suc (m - 1) = omega (arith, t .1) in
-        let u : upOf (dotBehind k h s) (headList h) m ≡ headUp (h .dir) m = rw y (head-alone k s h o (dotBehind k h s) (m - 1)) in
+        let u : upBy (dotted h s) (headList h) m ≡ headUp (h .dir) m = rw y (head-alone k s h o (dotted h s) (m - 1)) in
         record {
           is = e ∙ sym (ap (told refusedView) (up-head-from n m (t .0) ∙ u));
           inside = rw e (head-short (h .dir) m s);
         }
 
+-- what remains is the rest after so many back steps
+module _ (l : List Element) (b : ℕ) where
+  -- where no dot stands behind a drive alone
+  plain-rest : (x : ℕ) → x ≡ 0 → viewOf (cond (ltb (0 + b) (length l)) (span 0 (endOr (nthBackOf l b))) (span 0 0)) ≡ seen 0 (endOr (nthBackOf l b) + x)
+  plain-rest x z =
+      let y : 0 + b ≡ b = omega arith in
+      let e : endOr (nthBackOf l b) - 0 ≡ endOr (nthBackOf l b) + x = omega arith in
+      split (ltb b (length l))
+      (λ t. rw (y, t, e))
+      (λ t. let m = back-past l b (ltb-false b (length l) t) in rw (y, t, m, z))
+
+  cut-rest : (dot : Bool) → viewOf (restOf dot l 0 b) ≡ seen 0 (cutOf dot l b)
+  unfolding restOf behindDot leftEnd emptyAt cutOf
+  cut-rest false = plain-rest 0 refl
+  cut-rest true =
+      split (eqb (b + 1) (length l))
+      (λ t.
+      let n = eqb-true (b + 1) (length l) t in
+      let z : length l - 1 - b ≡ 0 = omega arith in
+      let g : nthBackOf l b ≡ nthOf l 0 = back-nth l b (omega arith) ∙ rw z in
+      let e : endOr (nthOf l 0) + 1 - 0 ≡ endOr (nthOf l 0) + 1 = omega arith in
+      rw (t, g, eq-eqb (length l) (b + 1) (sym n), e))
+      (λ t.
+      let n = eqb-false (b + 1) (length l) t in
+      rw (t, ne-eqb (length l) (b + 1) (λ z. n (sym z))) (plain-rest 0 refl))
+
+  -- n steps back, told either way
+  pub up-rest : (dot : Bool) → upBy dot l b ≡ present (climbs l b) (result (viewOf (restOf dot l 0 b)))
+  unfolding upBy
+  up-rest dot = rw (cut-rest dot)
+
 -- `parent`, `ancestor`
 module _ (k : Seps) (s : List ℕ) (r : View) where
-  pub parent-is : ViewAt (upOf (dotDisk k s) (listOf k s) 1) s r → ViewAt (parentOf k s) s r
-  unfolding parentOf upOf climbs
-  parent-is a = a
+  pub parent-is : ViewAt (upBy (dotted (startOf k s) s) (listOf k s) 1) s r → ViewAt (parentOf k s) s r
+  unfolding parentOf restBack climbs
+  parent-is a = rw (up-rest (listOf k s) 1 (dotted (startOf k s) s)) at a
 
   module _ (n : ℕ) where
-    pub ancestor-up : (n ≡ 0 → ⊥) → ViewAt (upOf (dotDisk k s) (listOf k s) n) s r → ViewAt (ancestorOf n k s) s r
-    unfolding ancestorOf
-    ancestor-up h a = rw (ne-eqb n 0 h) a
+    pub ancestor-up : (n ≡ 0 → ⊥) → ViewAt (upBy (dotted (startOf k s) s) (listOf k s) n) s r → ViewAt (ancestorOf n k s) s r
+    unfolding ancestorOf restBack
+    ancestor-up h a = rw (ne-eqb n 0 h) (rw (up-rest (listOf k s) n (dotted (startOf k s) s)) at a)
 
 pub ancestor-whole : (k : Seps) (s : List ℕ) (n : ℕ) → n ≡ 0 → ViewAt (ancestorOf n k s) s (seen 0 (length s))
 unfolding ancestorOf told
 ancestor-whole k s n h = record { is = rw h; inside = omega arith }
 
-pub ruleset climbing = (back-inside, disk-none, disk-rooted, disk-dot, steps-start, climb-body, climb-head, climb-on, climb-in, head-fits, head-dot, head-plain, before-none, before-fits, before-part, up-fixed, up-lone, up-long, up-body, up-head, parent-is, ancestor-up, ancestor-whole)
+pub ruleset climbing = (back-inside, steps-start, climb-body, climb-head, climb-on, climb-in, head-fits, head-dot, head-plain, before-none, before-fits, before-part, up-fixed, up-lone, up-long, up-body, up-head, parent-is, ancestor-up, ancestor-whole)
 
 -- ---- `name_part`
 

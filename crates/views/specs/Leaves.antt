@@ -10,12 +10,13 @@ use Rattle.octets.specs.declared.Seps.{Seps}
 use Rattle.answers.specs.declared.Reply.the-variants.{Absent}
 use Rattle.answers.specs.declared.View.{View}
 use Rattle.answers.specs.Reply.{refusedView, seen}
-use Rattle.answers.specs.Outcome.{Outcome, refuse, result, told}
+use Rattle.answers.specs.Outcome.{Outcome, refuse, result, told, present}
 use Rattle.parts.specs.declared.Element.{Element}
 use Rattle.parts.specs.declared.Kind.{Kind}
 use Rattle.parts.specs.declared.Kind.the-variants.{Dot, DotDot, Name}
 use Rattle.parts.specs.declared.Piece.{Piece}
 use Rattle.parts.specs.Body.{dots}
+use Rattle.parts.specs.Elements.{nthBackOf, endOr}
 use Rattle.parts.specs.Steps.{raised, within, SpansBack}
 use Rattle.components.specs.declared.Dir.{Dir}
 use Rattle.components.specs.declared.Dir.the-variants.{Bare, Root, Implied, Dot as Lone}
@@ -23,7 +24,14 @@ use Rattle.components.specs.declared.Start.{Start}
 use Rattle.components.specs.List.{headList}
 use Rattle.views.specs.declared.Reached.{Reached}
 use Rattle.views.specs.declared.Reached.the-variants.{Body, Head}
-use Rattle.views.specs.Views.{cutOf, upOf, lastName, lastDot}
+use Rattle.views.specs.Views.{climbs, lastName, lastDot}
+
+-- the right end of what remains after b steps back from l, where dot says whether a dot that is no component stands behind a drive
+unfoldable pub cutOf : Bool → List Element → ℕ → ℕ
+cutOf dot l b = endOr (nthBackOf l b) + cond dot (cond (eqb (length l) (b + 1)) 1 0) 0
+
+unfoldable pub upBy : Bool → List Element → ℕ → Outcome View
+upBy dot l n = present (climbs l n) (result (seen 0 (cutOf dot l n)))
 
 -- r tells the outcome o, and lies in the path s
 pub record ViewAt (o : Outcome View) (s : List ℕ) (r : View) : Type 0 where
@@ -41,7 +49,7 @@ leftOf h s e = headList h ++ within (isSep (h .seps)) (dots (h .seps)) s (h .at)
 
 -- behind any head, n steps back from l are m steps back from r
 unfoldable pub Steps : List Element → ℕ → List Element → ℕ → Type 0
-Steps l n r m = (dot : Bool) (g : List Element) → upOf dot (g ++ l) n ≡ upOf dot (g ++ r) m
+Steps l n r m = (dot : Bool) (g : List Element) → upBy dot (g ++ l) n ≡ upBy dot (g ++ r) m
 
 abbrev pub Climbed : (ℕ → Bool) → Bool → List ℕ → ℕ → ℕ → Reached → Type 0
 Climbed sep v s lo n (Body e) = Steps (within sep v s lo (length s)) n (within sep v s lo e) 0 × (e ≤ length s)

@@ -9,43 +9,14 @@ use Rattle.answers.specs.declared.Reply.the-variants.{Absent}
 use Rattle.answers.specs.declared.View.{View}
 use Rattle.answers.specs.Reply.{seen}
 use Rattle.answers.specs.Outcome.{Outcome, refuse, result, present}
-use Rattle.prefixes.specs.declared.Parsed.{Parsed}
-use Rattle.prefixes.specs.declared.Parsed.the-variants.{Nothing, Is}
 use Rattle.parts.specs.declared.Component.{Component}
 use Rattle.parts.specs.declared.Component.the-variants.{Prefix, RootDir, CurDir, ParentDir, Normal}
 use Rattle.parts.specs.declared.Element.{Element}
 use Rattle.parts.specs.declared.Item.{Item}
 use Rattle.parts.specs.declared.Item.the-variants.{Missing, Here}
-use Rattle.parts.specs.Elements.{nthBackOf, endOr}
-use Rattle.components.specs.declared.Dir.{Dir}
-use Rattle.components.specs.declared.Dir.the-variants.{Bare, Root, Implied, Dot}
-use Rattle.components.specs.declared.Start.{Start}
-use Rattle.components.specs.List.{dotAt, startOf, listOf, isDisk}
-
--- ---- what remains after steps back
-
--- "after a Disk prefix with no root, a first segment `.` belongs to no component"
-abbrev pub onDisk : Parsed → Bool
-onDisk Nothing = false
-onDisk (Is p) = isDisk p
-
-abbrev pub isBare : Dir → Bool
-isBare Bare = true
-isBare Root = false
-isBare Implied = false
-isBare Dot = false
-
-unfoldable pub dotBehind : Seps → Start → List ℕ → Bool
-dotBehind k h s = cond (onDisk (h .prefix)) (cond (isBare (h .dir)) (dotAt k s (h .end)) false) false
-
-unfoldable pub dotDisk : Seps → List ℕ → Bool
-dotDisk k s = dotBehind k (startOf k s) s
-
--- "Right end: the end of the last remaining component. Nothing remaining: an empty view at .. 0 if f = 0. One exception: ..
--- while f = 0, or f = 1, and no later component remains, the right end is behind that dot": here f = 0, the list is l, b steps
--- back were taken, and dot says whether there is such a dot
-unfoldable pub cutOf : Bool → List Element → ℕ → ℕ
-cutOf dot l b = endOr (nthBackOf l b) + cond dot (cond (eqb (length l) (b + 1)) 1 0) 0
+use Rattle.parts.specs.Elements.{nthBackOf}
+use Rattle.components.specs.List.{startOf, listOf}
+use Rattle.cursors.specs.Rest.{viewOf, dotted, restOf}
 
 -- "if that component is Normal, CurDir or ParentDir"
 abbrev pub leavesKind : Component → Bool
@@ -64,18 +35,18 @@ unfoldable pub climbs : List Element → ℕ → Bool
 climbs l zero = true
 climbs l (suc n) = cond (climbs l n) (leaves (nthBackOf l n)) false
 
--- the rest after n such steps back
-unfoldable pub upOf : Bool → List Element → ℕ → Outcome View
-upOf dot l n = present (climbs l n) (result (seen 0 (cutOf dot l n)))
+-- the rest after n back steps: f = 0, b = n
+unfoldable pub restBack : Seps → List ℕ → ℕ → View
+restBack k s n = viewOf (restOf (dotted (startOf k s) s) (listOf k s) 0 n)
 
 -- "Parent: the rest after one back step, if that component is Normal, CurDir or ParentDir."
 unfoldable pub parentOf : Seps → List ℕ → Outcome View
-parentOf k s = present (leaves (nthBackOf (listOf k s) 0)) (result (seen 0 (cutOf (dotDisk k s) (listOf k s) 1)))
+parentOf k s = present (leaves (nthBackOf (listOf k s) 0)) (result (restBack k s 1))
 
 -- "Ancestors, asked by a number: 0 is the path itself untrimmed, each next one the parent of the one before, Absent once
 -- there is none.": here by the list; the sentence itself, over the path's bytes, is `next-one` of Ancestors.antt
 unfoldable pub ancestorOf : ℕ → Seps → List ℕ → Outcome View
-ancestorOf n k s = cond (eqb n 0) (result (seen 0 (length s))) (upOf (dotDisk k s) (listOf k s) n)
+ancestorOf n k s = cond (eqb n 0) (result (seen 0 (length s))) (present (climbs (listOf k s) n) (result (restBack k s n)))
 
 -- ---- names
 

@@ -7,8 +7,6 @@ use components::Start;
 use octets::Seps;
 use parts::Kind;
 use parts::Piece;
-use prefixes::Parsed;
-use prefixes::Prefix;
 ghost use mathlib.Core.Path.{_≡_};
 ghost use Prim.Native.Nat.{_≤_};
 ghost use lib.ListN.{length};
@@ -16,10 +14,11 @@ ghost use Rattle.octets.specs.Class.{isSep};
 ghost use Rattle.answers.specs.Outcome.{told};
 ghost use Rattle.answers.specs.Reply.{refusedView};
 ghost use Rattle.parts.specs.Body.{dots};
-ghost use Rattle.components.specs.List.{headList, listOf, isDisk};
+ghost use Rattle.components.specs.List.{startOf, headList, listOf};
+ghost use Rattle.cursors.specs.Rest.{dotted};
 ghost use Rattle.components.specs.Leaves.{OpenAt};
-ghost use Rattle.views.specs.Views.{onDisk, isBare, dotBehind, dotDisk, upOf, parentOf, ancestorOf, fileNameOf, fileStemOf, extensionOf};
-ghost use Rattle.views.specs.Leaves.{ViewAt, CutAt, leftOf, ClimbAt, headUp, isName, NameAt, DotAt};
+ghost use Rattle.views.specs.Views.{parentOf, ancestorOf, fileNameOf, fileStemOf, extensionOf};
+ghost use Rattle.views.specs.Leaves.{upBy, ViewAt, CutAt, leftOf, ClimbAt, headUp, isName, NameAt, DotAt};
 
 // Where steps back through a body came to: before place e, or at its beginning with that many steps still to go.
 pub enum Reached {
@@ -27,61 +26,13 @@ pub enum Reached {
     Head(usize),
 }
 
-fn is_disk(p: Prefix) -> bool
-    ensures { λ r. ⌜ r ≡ isDisk p ⌝ }
-{
-    match p {
-        Prefix::Verbatim(_) => false,
-        Prefix::VerbatimUnc(_) => false,
-        Prefix::VerbatimDisk(_) => false,
-        Prefix::DeviceNs(_) => false,
-        Prefix::Unc(_) => false,
-        Prefix::Disk(_) => true,
-    }
-}
-
-fn on_disk(p: Parsed) -> bool
-    ensures { λ r. ⌜ r ≡ onDisk p ⌝ }
-{
-    match p {
-        Parsed::Nothing => false,
-        Parsed::Is(q) => is_disk(q),
-    }
-}
-
-fn is_bare(d: Dir) -> bool
-    ensures { λ r. ⌜ r ≡ isBare d ⌝ }
-{
-    match d {
-        Dir::Bare => true,
-        Dir::Root => false,
-        Dir::Implied => false,
-        Dir::Dot => false,
-    }
-}
-
-// Whether a dot that is no component stands behind a drive, as in `C:.`.
-fn dot_disk(k: Seps, h: Start, s: &[u8]) -> bool
-    ensures { λ r. ⌜ r ≡ dotBehind k h (now (s .entry)) ⌝ }
-{
-    let p = h.prefix;
-    if on_disk(p) {
-        let d = h.dir;
-        if is_bare(d) {
-            let e = h.end;
-            return components::dot_at(k, s, e);
-        }
-    }
-    false
-}
-
-// Where the head ends, with that dot.
+// Where the head ends, with a dot that is no component behind a drive, as in `C:.`.
 fn head_end(k: Seps, h: Start, s: &[u8]) -> usize
     requires { ⌜ OpenAt k (now s) h ⌝ }
-    ensures { λ r. ⌜ CutAt (dotBehind k h (now (s .entry))) (headList h) (now (s .entry)) r ⌝ }
+    ensures { λ r. ⌜ CutAt (dotted h (now (s .entry))) (headList h) (now (s .entry)) r ⌝ }
 {
     let at = h.at;
-    if dot_disk(k, h, s) {
+    if cursors::is_dotted(h, s) {
         return at + 1;
     }
     at
@@ -90,7 +41,7 @@ fn head_end(k: Seps, h: Start, s: &[u8]) -> usize
 // Where the last component before place e ends; 0 if there is none.
 fn end_before(k: Seps, h: Start, s: &[u8], e: usize) -> usize
     requires { ⌜ OpenAt k (now s) h × (e ≤ length (now s)) ⌝ }
-    ensures { λ r. ⌜ CutAt (dotBehind k h (now (s .entry))) (leftOf h (now (s .entry)) e) (now (s .entry)) r ⌝ }
+    ensures { λ r. ⌜ CutAt (dotted h (now (s .entry))) (leftOf h (now (s .entry)) e) (now (s .entry)) r ⌝ }
 {
     let inner = h.seps;
     let at = h.at;
@@ -145,7 +96,7 @@ fn head_up(d: Dir, left: usize) -> View
 
 // What remains after n steps back.
 fn up(k: Seps, s: &[u8], n: usize) -> View
-    ensures { λ r. ⌜ ViewAt (upOf (dotDisk k (now (s .entry))) (listOf k (now (s .entry))) n) (now (s .entry)) r ⌝ }
+    ensures { λ r. ⌜ ViewAt (upBy (dotted (startOf k (now (s .entry))) (now (s .entry))) (listOf k (now (s .entry))) n) (now (s .entry)) r ⌝ }
 {
     let h = components::begin(k, s);
     let inner = h.seps;
@@ -198,7 +149,7 @@ fn is_name(k: Kind) -> bool
 }
 
 // The last part, if it is a name. No head is one, so the body alone is asked.
-fn name_part(k: Seps, s: &[u8]) -> Piece
+pub fn name_part(k: Seps, s: &[u8]) -> Piece
     ensures { λ r. ⌜ NameAt k (now (s .entry)) r ⌝ }
 {
     let h = components::begin(k, s);

@@ -9,7 +9,7 @@ is-dotted-spec =
     (tie.spec
     (λ c κs. search (needs, cursors))
     (λ c κs. search (needs, cursors))
-    (λ c. search (needs, cursors))
     (λ c κs. search (needs, cursors))
+    (λ c. search (needs, cursors))
     (λ c. search (needs, cursors))
     (λ c. search (needs, cursors)))
