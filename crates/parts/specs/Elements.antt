@@ -1,12 +1,9 @@
 -- Elements of a list by their number, from the front and from the back.
 use Prim.Native.Nat.{ℕ, zero, suc, _+_, _-_, _≤_}
-use mathlib.Core.Path.{_≡_}
 use mathlib.Core.List.{List, [], _∷_}
-use mathlib.Core.Bool.{Bool, true, false, cond}
+use mathlib.Core.Bool.{cond}
 use lib.ListN.{length}
 use lib.Dec.{ltb}
-use Rattle.parts.specs.declared.Component.{Component}
-use Rattle.parts.specs.declared.Component.the-variants.{Prefix, RootDir, CurDir, ParentDir, Normal}
 use Rattle.parts.specs.declared.Element.{Element}
 use Rattle.parts.specs.declared.Item.{Item}
 use Rattle.parts.specs.declared.Item.the-variants.{Missing, Here}
@@ -34,15 +31,3 @@ endOr (Here p) = p .start + p .len
 unfoldable pub Upto : ℕ → List Element → Type 0
 Upto m [] = Unit
 Upto m (p ∷ l) = (p .start + p .len ≤ m) × Upto m l
-
--- each element of a list is one that a body can have: no prefix, and no root
-abbrev pub inBody : Component → Bool
-inBody (Prefix p) = false
-inBody RootDir = false
-inBody CurDir = true
-inBody ParentDir = true
-inBody Normal = true
-
-unfoldable pub Plain : List Element → Type 0
-Plain [] = Unit
-Plain (p ∷ l) = (inBody (p .component) ≡ true) × Plain l

@@ -28,7 +28,7 @@ use Rattle.parts.specs.declared.Kind.the-variants.{Dot, DotDot, Name}
 use Rattle.parts.specs.declared.Sort.{Sort}
 use Rattle.parts.specs.declared.Sort.the-variants.{Skip, Is}
 use Rattle.parts.specs.Body.{componentOf, sortBy, sortOf, put, rest, body, from, sortAt}
-use Rattle.parts.specs.Elements.{nthOf, nthBackOf, endOr, Upto, inBody, Plain}
+use Rattle.parts.specs.Elements.{nthOf, nthBackOf, endOr, Upto}
 use Rattle.parts.specs.Steps.{lift, raised, FirstAt, Took, within, BeginAt, LastAt, TookBack}
 
 module _ (sep : ℕ → Bool) (v : Bool) where
@@ -539,31 +539,3 @@ module _ (sep : ℕ → Bool) where
     pub from-good : (i : ℕ) → Goods sep v s (from sep v s i)
     unfolding from
     from-good i = segment-good i (drop i s) _ refl (rest-good i (drop i s) refl)
-
--- ---- no part of a body is a prefix or a root
-kind-plain : (q : Kind) → inBody (componentOf q) ≡ true
-kind-plain Dot = refl
-kind-plain DotDot = refl
-kind-plain Name = refl
-
-put-plain : (q : Sort) (i n : ℕ) (l : List Element) → Plain l → Plain (put q i n l)
-unfolding Plain
-put-plain Skip i n l u = u
-put-plain (Is k) i n l u = (kind-plain k, u)
-
-module _ (sep : ℕ → Bool) (v : Bool) where
-  rest-plain : (i : ℕ) (xs : List ℕ) → Plain (rest sep v i xs)
-  unfolding rest Plain
-  rest-plain i [] = tt
-  rest-plain i (x ∷ xs) =
-      split (sep x)
-      (λ e. rw e (put-plain (sortOf v (lead sep xs)) (suc i) (length (lead sep xs)) _ (rest-plain (suc i) xs)))
-      (λ e. rw e (rest-plain (suc i) xs))
-
-  pub from-plain : (s : List ℕ) (i : ℕ) → Plain (from sep v s i)
-  unfolding from
-  from-plain s i = put-plain (sortOf v (lead sep (drop i s))) i (length (lead sep (drop i s))) _ (rest-plain i (drop i s))
-
-  pub within-plain : (s : List ℕ) (lo hi : ℕ) → Plain (within sep v s lo hi)
-  unfolding within
-  within-plain s lo hi = from-plain (take hi s) lo

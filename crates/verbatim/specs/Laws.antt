@@ -24,9 +24,8 @@ use Rattle.parts.specs.declared.Part.{Part}
 use Rattle.parts.specs.declared.Piece.{Piece}
 use Rattle.parts.specs.declared.Piece.the-variants.{Nothing as None, Found}
 use Rattle.parts.specs.Body.{componentOf, dots, from}
-use Rattle.parts.specs.Elements.{inBody, Plain}
 use Rattle.parts.specs.Steps.{lift, within, LastAt}
-use Rattle.parts.specs.Laws.{few, last-none, last-found, within-none, within-plain}
+use Rattle.parts.specs.Laws.{few, last-none, last-found, Bodily, Good, Goods, from-good}
 use Rattle.verbatim.specs.declared.Sift.{Sift}
 use Rattle.verbatim.specs.declared.Sift.the-variants.{Keep, Drop}
 use Rattle.verbatim.specs.declared.Span.{Span}
@@ -89,6 +88,14 @@ pub pops-stay : (c : ℕ) (l : List Value) (v : Value) → unlessNormal (v .comp
 pops-stay zero l v e = refl
 pops-stay (suc c) l v e = rw (popped-last l v, e) (pops-stay c l v e)
 
+-- what a component of a body can be: no prefix, and no root
+abbrev pub inBody : Component → Bool
+inBody (Prefixed p) = false
+inBody RootDir = false
+inBody CurDir = true
+inBody ParentDir = true
+inBody Normal = true
+
 -- a component of q laid on, and then c names off: what is off before it, and whether it stays
 laid-one : (l : List Value) (v : Value) (c : ℕ) (m : Component) → v .component ≡ m → inBody m ≡ true → pops c (added m v l) ≡ pops (leftBy (siftOf Windows m c)) l ++ keptBy (siftOf Windows m c) v []
 laid-one l v c (Prefixed p) e h = absurd (false≢true h)
@@ -107,15 +114,25 @@ own-one l v c ParentDir e h = pops-stay c l v (rw e)
 own-one l v zero Normal e h = refl
 own-one l v (suc c) Normal e h = rw (popped-last l v, e) (simp append-nil)
 
--- no value of a body is a prefix or a root
 unfoldable pub PlainV : List Value → Type 0
 PlainV [] = Unit
 PlainV (v ∷ l) = (inBody (v .component) ≡ true) × PlainV l
 
-pub values-plain : (s : List ℕ) (l : List Element) → Plain l → PlainV (valuesOf s l)
-unfolding Plain PlainV valuesOf
-values-plain s [] u = tt
-values-plain s (x ∷ l) u = (u .0, values-plain s l (u .1))
+bodily-in : (v : Bool) (m : Component) → Bodily v m → inBody m ≡ true
+bodily-in v (Prefixed p) h = absurd h
+bodily-in v RootDir h = absurd h
+bodily-in v CurDir h = refl
+bodily-in v ParentDir h = refl
+bodily-in v Normal h = refl
+
+goods-plain : (sep : ℕ → Bool) (v : Bool) (s t : List ℕ) (l : List Element) → Goods sep v t l → PlainV (valuesOf s l)
+unfolding Goods PlainV valuesOf
+goods-plain sep v s t [] u = tt
+goods-plain sep v s t (x ∷ l) u = (bodily-in v (x .component) (u .0 .bodily), goods-plain sep v s t l (u .1))
+
+pub values-plain : (k : Seps) (s : List ℕ) (lo hi : ℕ) → PlainV (valuesOf s (within (isSep k) (dots k) s lo hi))
+unfolding within
+values-plain k s lo hi = goods-plain (isSep k) (dots k) s (take hi s) _ (from-good (isSep k) (dots k) (take hi s) lo)
 
 pub append-plain : (l m : List Value) → PlainV l → PlainV m → PlainV (l ++ m)
 unfolding PlainV

@@ -21,9 +21,8 @@ use Rattle.prefixes.specs.Prefix.{prefixIn}
 use Rattle.parts.specs.declared.Component.{Component}
 use Rattle.parts.specs.declared.Component.the-variants.{Prefix as Prefixed, RootDir, CurDir, ParentDir, Normal}
 use Rattle.parts.specs.Body.{dots}
-use Rattle.parts.specs.Elements.{inBody}
 use Rattle.parts.specs.Steps.{within}
-use Rattle.parts.specs.Laws.{within-none, within-plain}
+use Rattle.parts.specs.Laws.{within-none}
 use Rattle.components.specs.declared.Dir.{Dir}
 use Rattle.components.specs.declared.Dir.the-variants.{Bare, Root, Implied, Dot}
 use Rattle.components.specs.declared.Start.{Start}
@@ -36,7 +35,7 @@ use Rattle.verbatim.specs.declared.Share.{Share}
 use Rattle.verbatim.specs.declared.Plan.{Plan}
 use Rattle.verbatim.specs.Verbatim.{verbatimKind, verbatimIn, Value, valuesOf, laid, isRootDir, textOf, written, verbatimJoin}
 use Rattle.verbatim.specs.Leaves.{owed, kept, flat, owedAt, textAt, spanText, Tallied, rootsOf, behindText, bothText, Shared, planText, Planned}
-use Rattle.verbatim.specs.Laws.{pops, pops-stay, PlainV, values-plain, append-plain, kept-plain, laid-kept, own-kept, values-append, flat-append}
+use Rattle.verbatim.specs.Laws.{inBody, pops, pops-stay, PlainV, values-plain, append-plain, kept-plain, laid-kept, own-kept, values-append, flat-append}
 
 -- ---- the bytes of a list that has a prefix ahead, a root behind it where r holds, and a body
 
@@ -158,22 +157,19 @@ module _ (p q : List ℕ) (h g : Start) (a : OpenAt Windows p h) (b : OpenAt Win
   unfolding valuesOf
   tail-values = list-values q g b Nothing Windows n refl
 
-  body-plain : (k : Seps) (s : List ℕ) (lo hi : ℕ) → PlainV (valuesOf s (within (isSep k) (dots k) s lo hi))
-  body-plain k s lo hi = values-plain s _ (within-plain (isSep k) (dots k) s lo hi)
-
   module _ (x : Prefix) (e : prefixIn Windows p ≡ Is x) (v : verbatimKind x ≡ true) where
     root-text : rootsOf (g .dir) ≡ true → verbatimJoin p q ≡ take (h .end) p ++ behindText true (bothText p (h .at) (h .at) q (g .at))
     unfolding verbatimJoin bothText textAt owedAt valuesOf PlainV
     root-text r =
         let z : within (isSep OnlyBack) (dots OnlyBack) p (h .at) (h .at) ≡ [] = within-none (isSep OnlyBack) (dots OnlyBack) p (h .at) (h .at) (omega arith) (omega (arith, a .high)) in
         rw (z, front-values p h a x e v, tail-values, laid-root q _ _ _ (g .dir) (g .end) r)
-        (front-text x (take (h .end) p) true _ [] _ tt (body-plain Windows q (g .at) (length q)))
+        (front-text x (take (h .end) p) true _ [] _ tt (values-plain Windows q (g .at) (length q)))
 
     parts-text : rootsOf (g .dir) ≡ false → verbatimJoin p q ≡ take (h .end) p ++ behindText (rootsOf (h .dir)) (bothText p (h .at) (length p) q (g .at))
     unfolding verbatimJoin bothText textAt owedAt
     parts-text r =
         rw (front-values p h a x e v, tail-values, laid-dir q _ _ (g .dir) (g .end) r)
-        (front-text x (take (h .end) p) (rootsOf (h .dir)) _ _ _ (body-plain OnlyBack p (h .at) (length p)) (body-plain Windows q (g .at) (length q)))
+        (front-text x (take (h .end) p) (rootsOf (h .dir)) _ _ _ (values-plain OnlyBack p (h .at) (length p)) (values-plain Windows q (g .at) (length q)))
 
   root-shared : (z : Parsed) → prefixIn Windows p ≡ z → verbatimIn z ≡ true → rootsOf (g .dir) ≡ true → Shared p q (record { end = h .end; root = true; lo = h .at; hi = h .at; at = g .at })
   root-shared Nothing e v r = absurd (false≢true v)
