@@ -145,7 +145,18 @@ fn timed<'a, T>(inputs: &'a [Input], mut f: impl FnMut(&'a Input) -> T + 'a) -> 
     })
 }
 
-/// The same for the library's calls, whose numbers come back through an array.
+/// A call of the Rust's stays a call, as one of the archive's does: it is not
+/// taken into the loop that times it.
+#[inline(never)]
+fn called<'a, T>(f: &mut impl FnMut(&'a Input) -> T, x: &'a Input) -> T {
+    f(x)
+}
+
+fn rust<'a, T>(inputs: &'a [Input], mut f: impl FnMut(&'a Input) -> T + 'a) -> Timed<'a> {
+    timed(inputs, move |x| called(&mut f, x))
+}
+
+/// The library's calls, whose numbers come back through an array.
 fn numbered<'a, const N: usize>(
     inputs: &'a [Input],
     mut f: impl FnMut(&'a Input, &mut [usize; N]) -> usize + 'a,
@@ -194,7 +205,7 @@ pub fn ours<'a>(call: Call, mode: Mode, i: &'a [Input]) -> Option<Timed<'a>> {
 macro_rules! flavour {
     ($name:ident, $text:path, $strings:path) => {
         mod $name {
-            use super::{Call, EXTENSION, FILE_NAME, Input, ROOM, Timed, timed};
+            use super::{Call, EXTENSION, FILE_NAME, Input, ROOM, Timed, rust};
             #[allow(unused_imports)]
             use std::os::unix::ffi::OsStrExt;
             use strings::OsStr;
@@ -240,7 +251,7 @@ macro_rules! flavour {
                 change: impl Fn(&'a Input, &mut PathBuf) + 'a,
             ) -> Timed<'a> {
                 let mut buffer = PathBuf::with_capacity(ROOM);
-                timed(i, move |x| {
+                rust(i, move |x| {
                     buffer.clear();
                     buffer.as_mut_os_string().push(OsStr::from_bytes(p(x)));
                     change(x, &mut buffer);
@@ -251,44 +262,44 @@ macro_rules! flavour {
             pub fn forms<'a>(call: Call, i: &'a [Input]) -> Vec<Timed<'a>> {
                 let (name, extension) = (OsStr::from_bytes(FILE_NAME), OsStr::from_bytes(EXTENSION));
                 let one = match call {
-                    Call::Front(at) => timed(i, move |x| front(&x.p, at.of(x.count))),
-                    Call::Back(at) => timed(i, move |x| back(&x.p, at.of(x.count))),
-                    Call::Whole => timed(i, |x| rest(&x.p, 0)),
-                    Call::Rest => timed(i, |x| rest(&x.p, x.count / 4)),
-                    Call::Parent => timed(i, |x| path(&x.p).parent()),
-                    Call::Ancestor => timed(i, |x| path(&x.p).ancestors().nth(x.count / 2)),
-                    Call::FileName => timed(i, |x| path(&x.p).file_name()),
-                    Call::FileStem => timed(i, |x| path(&x.p).file_stem()),
-                    Call::Extension => timed(i, |x| path(&x.p).extension()),
-                    Call::HasRoot => timed(i, |x| path(&x.p).has_root()),
-                    Call::IsAbsolute => timed(i, |x| path(&x.p).is_absolute()),
-                    Call::CompareSame => timed(i, |x| path(&x.p).cmp(path(&x.same))),
-                    Call::CompareNear => timed(i, |x| path(&x.p).cmp(path(&x.near))),
-                    Call::CompareFar => timed(i, |x| path(&x.p).cmp(path(&x.far))),
-                    Call::Starts => timed(i, |x| path(&x.p).starts_with(path(&x.base))),
-                    Call::Ends => timed(i, |x| path(&x.p).ends_with(path(&x.tail))),
-                    Call::Strip => timed(i, |x| path(&x.p).strip_prefix(path(&x.base)).ok()),
+                    Call::Front(at) => rust(i, move |x| front(&x.p, at.of(x.count))),
+                    Call::Back(at) => rust(i, move |x| back(&x.p, at.of(x.count))),
+                    Call::Whole => rust(i, |x| rest(&x.p, 0)),
+                    Call::Rest => rust(i, |x| rest(&x.p, x.count / 4)),
+                    Call::Parent => rust(i, |x| path(&x.p).parent()),
+                    Call::Ancestor => rust(i, |x| path(&x.p).ancestors().nth(x.count / 2)),
+                    Call::FileName => rust(i, |x| path(&x.p).file_name()),
+                    Call::FileStem => rust(i, |x| path(&x.p).file_stem()),
+                    Call::Extension => rust(i, |x| path(&x.p).extension()),
+                    Call::HasRoot => rust(i, |x| path(&x.p).has_root()),
+                    Call::IsAbsolute => rust(i, |x| path(&x.p).is_absolute()),
+                    Call::CompareSame => rust(i, |x| path(&x.p).cmp(path(&x.same))),
+                    Call::CompareNear => rust(i, |x| path(&x.p).cmp(path(&x.near))),
+                    Call::CompareFar => rust(i, |x| path(&x.p).cmp(path(&x.far))),
+                    Call::Starts => rust(i, |x| path(&x.p).starts_with(path(&x.base))),
+                    Call::Ends => rust(i, |x| path(&x.p).ends_with(path(&x.tail))),
+                    Call::Strip => rust(i, |x| path(&x.p).strip_prefix(path(&x.base)).ok()),
                     Call::Join => {
                         return vec![
-                            timed(i, |x| path(&x.p).join(path(&x.q))),
+                            rust(i, |x| path(&x.p).join(path(&x.q))),
                             reused(i, |x| &x.p, |x, b| b.push(path(&x.q))),
                         ];
                     }
                     Call::JoinVerbatim => {
                         return vec![
-                            timed(i, |x| path(&x.verbatim).join(path(&x.up))),
+                            rust(i, |x| path(&x.verbatim).join(path(&x.up))),
                             reused(i, |x| &x.verbatim, |x, b| b.push(path(&x.up))),
                         ];
                     }
                     Call::SetFileName => {
                         return vec![
-                            timed(i, move |x| path(&x.p).with_file_name(name)),
+                            rust(i, move |x| path(&x.p).with_file_name(name)),
                             reused(i, |x| &x.p, move |_, b| b.set_file_name(name)),
                         ];
                     }
                     Call::SetExtension => {
                         return vec![
-                            timed(i, move |x| path(&x.p).with_extension(extension)),
+                            rust(i, move |x| path(&x.p).with_extension(extension)),
                             reused(i, |x| &x.p, move |_, b| assert!(b.set_extension(extension))),
                         ];
                     }
@@ -311,16 +322,16 @@ pub fn rusts<'a>(call: Call, mode: Mode, i: &'a [Input]) -> Vec<Timed<'a>> {
     match (call, mode) {
         // what a user writes, and what the text itself calls
         (Call::Prefix(head), _) => vec![
-            timed(i, move |x| windows::front(&x.prefixed[head], 0)),
-            timed(i, move |x| windows::path(&x.prefixed[head]).oracle_prefix()),
+            rust(i, move |x| windows::front(&x.prefixed[head], 0)),
+            rust(i, move |x| windows::path(&x.prefixed[head]).oracle_prefix()),
         ],
         // the installed std asks the operating system for the directory
         (Call::AbsolutePath, _) => vec![
-            timed(i, |x| std::path::absolute(installed::path(&x.p))),
-            timed(i, |x| oracle::unix::path::absolute(unix::path(&x.p))),
+            rust(i, |x| std::path::absolute(installed::path(&x.p))),
+            rust(i, |x| oracle::unix::path::absolute(unix::path(&x.p))),
         ],
         (Call::AbsoluteRelative, _) => {
-            vec![timed(i, |x| oracle::unix::path::absolute(unix::path(&x.relative)))]
+            vec![rust(i, |x| oracle::unix::path::absolute(unix::path(&x.relative)))]
         }
         (_, Mode::Windows) => windows::forms(call, i),
         (_, Mode::Unix) => {

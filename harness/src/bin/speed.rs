@@ -7,11 +7,12 @@ use oracle::types::Mode;
 use std::fmt::Write as _;
 use std::time::Instant;
 
-const USAGE: &str = "usage: speed [ROUNDS] [PART]
+const USAGE: &str = "usage: speed [ROUNDS] [PART] [best]
 
 Prints a Markdown table of ours over Rust's. Each cell is the median, over
 ROUNDS (201 if not given), of the ratio of two runs of some microseconds, one
-after the other. PART keeps the calls whose name has that text.
+after the other. PART keeps the calls whose name has that text. With best, a
+cell is the fastest run of each instead: steadier where other work goes on.
 ";
 
 const LENGTHS: [usize; 3] = [24, 200, 4_096];
@@ -53,7 +54,7 @@ fn calibrate(f: &mut Timed<'_>) -> usize {
 }
 
 /// Ours and every form of the Rust's, by turns.
-fn measure(mut ours: Timed<'_>, mut rusts: Vec<Timed<'_>>, rounds: usize) -> Cell {
+fn measure(mut ours: Timed<'_>, mut rusts: Vec<Timed<'_>>, rounds: usize, best: bool) -> Cell {
     let our_times = calibrate(&mut ours);
     let times: Vec<usize> = rusts.iter_mut().map(calibrate).collect();
     let mut our_ns = Vec::new();
@@ -67,6 +68,11 @@ fn measure(mut ours: Timed<'_>, mut rusts: Vec<Timed<'_>>, rounds: usize) -> Cel
             }
         }
     }
+    if best {
+        let least = |v: &[f64]| v.iter().copied().fold(f64::MAX, f64::min);
+        let (ours, rust) = (least(&our_ns), rust_ns.iter().map(|v| least(v)).fold(f64::MAX, f64::min));
+        return Cell { ours, rust, ratio: ours / rust };
+    }
     let medians: Vec<f64> = rust_ns.iter().map(|v| median(&mut v.clone())).collect();
     let fastest = (0..medians.len()).min_by(|a, b| medians[*a].total_cmp(&medians[*b])).unwrap();
     let mut ratios: Vec<f64> = our_ns.iter().zip(&rust_ns[fastest]).map(|(a, b)| a / b).collect();
@@ -76,14 +82,14 @@ fn measure(mut ours: Timed<'_>, mut rusts: Vec<Timed<'_>>, rounds: usize) -> Cel
 /// A call in every shape: lengths by names.
 type Row = (Call, Vec<Cell>);
 
-fn rows(mode: Mode, rounds: usize, part: &str) -> Vec<Row> {
+fn rows(mode: Mode, rounds: usize, part: &str, best: bool) -> Vec<Row> {
     let shapes: Vec<Vec<Input>> =
         LENGTHS.iter().flat_map(|&len| NAMES.map(|names| inputs(Shape { mode, len, names }))).collect();
     let mut out = Vec::new();
     for call in calls(mode).into_iter().filter(|c| c.name().contains(part)) {
         let cells: Option<Vec<Cell>> = shapes
             .iter()
-            .map(|i| Some(measure(ours(call, mode, i)?, rusts(call, mode, i), rounds)))
+            .map(|i| Some(measure(ours(call, mode, i)?, rusts(call, mode, i), rounds, best)))
             .collect();
         if let Some(cells) = cells {
             out.push((call, cells));
@@ -155,19 +161,21 @@ fn main() {
     let args: Vec<String> = std::env::args().skip(1).collect();
     let rounds = match args.first().map(|a| a.parse::<usize>()) {
         None => 201,
-        Some(Ok(n)) if n > 0 && args.len() <= 2 => n,
+        Some(Ok(n)) if n > 0 && (args.len() <= 2 || args[2..] == ["best"]) => n,
         _ => {
             eprint!("{USAGE}");
             std::process::exit(2);
         }
     };
     let part = args.get(1).map_or("", String::as_str);
-    let unix = rows(Mode::Unix, rounds, part);
-    let windows = rows(Mode::Windows, rounds, part);
+    let best = args.len() == 3;
+    let unix = rows(Mode::Unix, rounds, part, best);
+    let windows = rows(Mode::Windows, rounds, part, best);
     let cells = || unix.iter().chain(&windows).flat_map(|r| &r.1);
     println!("Machine: {}, {}.", line_of("/proc/cpuinfo", "model name"), std::env::consts::ARCH);
     println!("Rust: {}; the text of {}.", oracle::RUSTC, oracle::SOURCE.split(';').next().unwrap_or(""));
-    println!("{rounds} rounds a cell, {} cells.\n", cells().count());
+    let how = if best { "the fastest" } else { "the median" };
+    println!("{how} of {rounds} rounds a cell, {} cells.\n", cells().count());
     print!("{}", table("Unix mode", &unix));
     print!("{}", table("Windows mode", &windows));
     let over = cells().filter(|c| c.ratio > AIM).count();
