@@ -1,5 +1,6 @@
 // A request of the ask protocol, answered by the library's public calls. Proved: every function is safe whatever the line, and no
 // answer is longer than protocol::ANSWER. That each answer is put together as the protocol says is tested against stored answers.
+mod pairs;
 mod seen;
 mod steps;
 mod writes;
@@ -35,7 +36,7 @@ fn prefix(q: Request, p: &[u8], out: &mut [u8; SPACE], n: usize) -> usize
     protocol::put_row(out, n, &row, 10)
 }
 
-// The answer to a request with the paths p and other. One arm a request; what is not answered yet is no request.
+// The answer to a request with the paths p and other. One arm a request.
 fn reply(
     q: Request,
     p: &[u8],
@@ -60,8 +61,12 @@ fn reply(
         Verb::Name => seen::name(q, p, out, n),
         Verb::Stem => seen::stem(q, p, out, n),
         Verb::Extension => seen::extension(q, p, out, n),
-        Verb::Absolute => writes::written(q, p, other, space, out, n),
-        _ => protocol::put_bad(out, n),
+        Verb::Compare => pairs::compare(q, p, other, out, n),
+        Verb::Starts => pairs::starts(q, p, other, out, n),
+        Verb::Ends => pairs::ends(q, p, other, out, n),
+        Verb::Strip => pairs::strip(q, p, other, out, n),
+        Verb::Unknown => protocol::put_bad(out, n),
+        _ => writes::written(q, p, other, space, out, n),
     }
 }
 

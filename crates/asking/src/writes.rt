@@ -17,7 +17,13 @@ fn fill(space: &mut [u8]) {
 
 // The call that a verb names; no other verb comes here.
 fn called(q: Request, p: &[u8], other: &[u8], out: &mut [u8]) -> View {
-    paths::absolute(q.mode, p, other, out)
+    let verb = q.verb;
+    match verb {
+        Verb::Join => paths::join(q.mode, p, other, out),
+        Verb::SetName => paths::set_file_name(q.mode, p, other, out),
+        Verb::SetExtension => paths::set_extension(q.mode, p, other, out),
+        _ => paths::absolute(q.mode, p, other, out),
+    }
 }
 
 pub fn written(

@@ -8,14 +8,16 @@ use native.Mathlib.Numerals.{add-one}
 use native.Mathlib.Omega.{arith}
 use lib.ListN.{length, take, drop, set, getD, length-append, length-drop, drop-of-length-le, take-append-drop}
 use lib.Seq.{drop-drop, take-append-seam, drop-append-seam, take-all, take-add, length-take-le, drop-append-add, take-at, drop-at, take-length, drop-length, take-take, take-append-le}
+use lib.Dec.{ltb}
 use borrow.Rule.Slice.PartMut.{midOf, putMid}
+use Rattle.octets.specs.Class.{limit}
 use Rattle.answers.specs.declared.Reply.{Reply}
-use Rattle.answers.specs.declared.Reply.the-variants.{Room}
+use Rattle.answers.specs.declared.Reply.the-variants.{Mode, Length, Room}
 use Rattle.answers.specs.Reply.{refusedView, seen}
 use Rattle.answers.specs.declared.View.{View}
-use Rattle.answers.specs.Outcome.{Outcome, refuse, result, guard}
+use Rattle.answers.specs.Outcome.{Outcome, refuse, result, guard, short}
 use Rattle.answers.specs.Written.{over, answered, left, Wrote}
-use borrow.Author.Tests.{le-leb, lt-leb}
+use borrow.Author.Tests.{le-leb, lt-leb, lt-ltb, le-ltb}
 
 pub over-none : (b : List ℕ) → over [] b ≡ b
 unfolding over
@@ -193,3 +195,22 @@ module _ (r : Reply) (o : Outcome (List ℕ)) (a : View) {t : Bool} {b : List �
   pub write-goes : {after : List ℕ} → t ≡ false → Wrote o a b after → Wrote (guard t r o) a b after
   unfolding guard
   write-goes h w = rw h w
+
+-- a call of two paths that writes, whose greatest mode is n: Mode, Length of either, and all well
+module _ (a : View) (b : List ℕ) (n m : ℕ) where
+  pub wrote-mode : (o : Outcome (List ℕ)) → n < m → a ≡ refusedView Mode → Wrote (guard (ltb n m) Mode o) a b b
+  wrote-mode o h e = write-stops Mode o a (lt-ltb n m h) e
+
+  module _ (g : m ≤ n) (s : List ℕ) where
+    pub wrote-long : (o : Outcome (List ℕ)) → limit < length s → a ≡ refusedView Length → Wrote (guard (ltb n m) Mode (short s o)) a b b
+    wrote-long o h e = write-goes Mode _ a (le-ltb n m g) (write-stops Length o a (lt-ltb limit (length s) h) e)
+
+    module _ (h : length s ≤ limit) (t : List ℕ) where
+      second : (o : Outcome (List ℕ)) {after : List ℕ} → Wrote (short t o) a b after → Wrote (guard (ltb n m) Mode (short s (short t o))) a b after
+      second o w = write-goes Mode _ a (le-ltb n m g) (write-goes Length _ a (le-ltb limit (length s) h) w)
+
+      pub wrote-second-long : (o : Outcome (List ℕ)) → limit < length t → a ≡ refusedView Length → Wrote (guard (ltb n m) Mode (short s (short t o))) a b b
+      wrote-second-long o l e = second o (write-stops Length o a (lt-ltb limit (length t) l) e)
+
+      pub wrote-well : (o : Outcome (List ℕ)) (after : List ℕ) → length t ≤ limit → Wrote o a b after → Wrote (guard (ltb n m) Mode (short s (short t o))) a b after
+      wrote-well o after l w = second o (write-goes Length o a (le-ltb limit (length t) l) w)

@@ -1,6 +1,8 @@
 pub mod Prefix
 pub mod Steps
 pub mod Tests
+pub mod Pairs
+pub mod Writes
 pub mod Laws
 pub mod StepLaws
 pub mod TestLaws
@@ -8,3 +10,5 @@ pub mod Absolute
 pub mod AbsoluteLaws
 pub mod Views
 pub mod ViewLaws
+pub mod WriteLaws
+pub mod PairLaws

@@ -1,12 +1,18 @@
 // The public calls. Each takes the mode as a number and any bytes, and refuses what document 01 says is refused; none has
 // a `requires`. What a call promises is its definition in specs/, a chain of guards in front of what was asked for.
 mod absolutes;
+mod pairs;
 mod steps;
 mod tests;
 mod view;
+mod writes;
 
 pub use absolutes::absolute;
 use answers::Reply;
+pub use pairs::compare;
+pub use pairs::ends_with;
+pub use pairs::starts_with;
+pub use pairs::strip_prefix;
 use prefixes::Parsed;
 pub use steps::Cursor;
 pub use steps::Stepped;
@@ -18,6 +24,9 @@ pub use view::extension;
 pub use view::file_name;
 pub use view::file_stem;
 pub use view::parent;
+pub use writes::join;
+pub use writes::set_extension;
+pub use writes::set_file_name;
 ghost use mathlib.Core.Path.{_≡_};
 ghost use Rattle.answers.specs.Outcome.{told};
 ghost use Rattle.paths.specs.Prefix.{refusedPrefix, prefixCall};

@@ -24,7 +24,7 @@ use Rattle.prefixes.specs.declared.Prefix.the-variants.{Verbatim, Verbat
 use Rattle.prefixes.specs.declared.Parsed.{Parsed}
 use Rattle.prefixes.specs.declared.Parsed.the-variants.{Nothing, Is}
 use Rattle.prefixes.specs.Prefix.{turned, begins, slashed, capital, drive, driveExact, past, nameOf, namesOf, isVerbatim, verbatimOf, uncOf, deviceOf, prefixOf, shareLen, lenOf, endOfPrefix, prefixIn, driveFigures, nameFigures, namesFigures, figuresOf, parsedFigures}
-use Rattle.prefixes.specs.Leaves.{beginsFrom, slashedFrom, Past}
+use Rattle.prefixes.specs.Leaves.{beginsFrom, slashedFrom, Past, NamesIn}
 
 -- `turn`, `to_capital`, `step_past`
 module _ (b : ℕ) where
@@ -497,3 +497,61 @@ pub of-prefix : (p : Parsed) (q : Prefix) (r : Figures) → p ≡ Is q → r ≡
 of-prefix p q r e f = f ∙ rw e
 
 pub ruleset figures = (windows-prefix, of-verbatim, of-verbatim-unc, of-verbatim-disk, of-device, of-unc, of-disk, of-nothing, of-prefix)
+
+-- ---- the names of a prefix lie in its path
+past-in : (a n : ℕ) → a ≤ n → past a n ≤ n
+unfolding past
+past-in a n h = split (ltb a n) (λ e. rw e (omega (arith, ltb-true a n e))) (λ e. rw e h)
+
+name-inside : (sep : ℕ → Bool) (c i : ℕ) (s : List ℕ) → i ≤ length s → NamesIn s (nameFigures c (nameOf sep i (drop i s)))
+unfolding nameOf
+name-inside sep c i s h = record { first = omega (arith, lead-short sep (drop i s), length-drop i s); second = omega arith }
+
+names-inside : (sep : ℕ → Bool) (c i : ℕ) (s : List ℕ) → i ≤ length s → NamesIn s (namesFigures c (namesOf sep i (drop i s)))
+unfolding namesOf
+names-inside sep c i s h =
+    let t = drop i s in
+    let a = length (lead sep t) in
+    let b = past a (length t) in
+    record {
+      first = omega (arith, lead-short sep t, length-drop i s);
+      second = omega (arith, lead-short sep (drop b t), length-drop b t, length-drop i s, past-in a (length t) (lead-short sep t));
+    }
+
+drive-inside : (c d : ℕ) (s : List ℕ) → NamesIn s (driveFigures c d)
+drive-inside c d s = record { first = omega arith; second = omega arith }
+
+abbrev Inside : List ℕ → Parsed → Type 0
+Inside s p = NamesIn s (parsedFigures p)
+
+verbatim-inside : (s : List ℕ) → 4 ≤ length s → NamesIn s (figuresOf (verbatimOf s))
+unfolding verbatimOf
+verbatim-inside s h =
+    by-cond (λ (p : Prefix). NamesIn s (figuresOf p)) (begins (85 ∷ 78 ∷ 67 ∷ 92 ∷ []) (drop 4 s)) _ _
+    (λ e. names-inside (isSep OnlyBack) 2 8 s (omega (arith, fits (85 ∷ 78 ∷ 67 ∷ 92 ∷ []) (drop 4 s) e, length-drop 4 s)))
+    (λ _. by-cond (λ (p : Prefix). NamesIn s (figuresOf p)) (driveExact (drop 4 s)) _ _
+    (λ _. drive-inside 3 (capital (getD s 4 0)) s)
+    (λ _. name-inside (isSep OnlyBack) 1 4 s h))
+
+device-inside : (s : List ℕ) → 2 ≤ length s → Inside s (deviceOf s)
+unfolding deviceOf uncOf
+device-inside s h =
+    by-cond (Inside s) (begins (46 ∷ 92 ∷ []) (drop 2 s)) _ _
+    (λ e. name-inside (isSep Windows) 4 4 s (omega (arith, fits (46 ∷ 92 ∷ []) (drop 2 s) e, length-drop 2 s)))
+    (λ _. let n = namesOf (isSep Windows) 2 (drop 2 s) in
+    by-cond (Inside s) (eqb (n .server .len) 0) _ _ (λ _. drive-inside 0 0 s)
+    (λ _. by-cond (Inside s) (eqb (n .share .len) 0) _ _ (λ _. drive-inside 0 0 s) (λ _. names-inside (isSep Windows) 5 2 s h)))
+
+prefix-inside : (s : List ℕ) → Inside s (prefixOf s)
+unfolding prefixOf
+prefix-inside s =
+    by-cond (Inside s) (begins (92 ∷ 92 ∷ []) s) _ _
+    (λ q. by-cond (Inside s) (isVerbatim s) _ _
+    (λ v. verbatim-inside s (verb-long s true (sym q) refl true (sym v) refl))
+    (λ _. device-inside s (fits (92 ∷ 92 ∷ []) s q)))
+    (λ _. by-cond (Inside s) (drive s) _ _ (λ _. drive-inside 6 (capital (getD s 0 0)) s) (λ _. drive-inside 0 0 s))
+
+pub names-within : (k : Seps) (s : List ℕ) → NamesIn s (parsedFigures (prefixIn k s))
+names-within Unix s = drive-inside 0 0 s
+names-within Windows s = prefix-inside s
+names-within OnlyBack s = drive-inside 0 0 s

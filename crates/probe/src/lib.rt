@@ -165,6 +165,64 @@ pub extern "C" fn probe_is_absolute(mode: usize, path: &[u8], answer: &mut [usiz
 }
 
 #[no_mangle]
+pub extern "C" fn probe_compare(mode: usize, p: &[u8], q: &[u8], answer: &mut [usize; 1]) -> usize {
+    verdict(paths::compare(mode, p, q), answer)
+}
+
+#[no_mangle]
+pub extern "C" fn probe_starts_with(mode: usize, p: &[u8], q: &[u8], answer: &mut [usize; 1]) -> usize {
+    verdict(paths::starts_with(mode, p, q), answer)
+}
+
+#[no_mangle]
+pub extern "C" fn probe_ends_with(mode: usize, p: &[u8], q: &[u8], answer: &mut [usize; 1]) -> usize {
+    verdict(paths::ends_with(mode, p, q), answer)
+}
+
+#[no_mangle]
+pub extern "C" fn probe_strip_prefix(
+    mode: usize,
+    p: &[u8],
+    q: &[u8],
+    answer: &mut [usize; 2],
+) -> usize {
+    view(paths::strip_prefix(mode, p, q), answer)
+}
+
+#[no_mangle]
+pub extern "C" fn probe_join(
+    mode: usize,
+    p: &[u8],
+    q: &[u8],
+    out: &mut [u8],
+    answer: &mut [usize; 2],
+) -> usize {
+    view(paths::join(mode, p, q, out), answer)
+}
+
+#[no_mangle]
+pub extern "C" fn probe_set_file_name(
+    mode: usize,
+    p: &[u8],
+    q: &[u8],
+    out: &mut [u8],
+    answer: &mut [usize; 2],
+) -> usize {
+    view(paths::set_file_name(mode, p, q, out), answer)
+}
+
+#[no_mangle]
+pub extern "C" fn probe_set_extension(
+    mode: usize,
+    p: &[u8],
+    e: &[u8],
+    out: &mut [u8],
+    answer: &mut [usize; 2],
+) -> usize {
+    view(paths::set_extension(mode, p, e, out), answer)
+}
+
+#[no_mangle]
 pub extern "C" fn probe_absolute(
     mode: usize,
     path: &[u8],

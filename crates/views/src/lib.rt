@@ -148,7 +148,7 @@ fn is_name(k: Kind) -> bool
 }
 
 // The last part, if it is a name. No head is one, so the body alone is asked.
-fn name_part(k: Seps, s: &[u8]) -> Piece
+pub fn name_part(k: Seps, s: &[u8]) -> Piece
     ensures { λ r. ⌜ NameAt k (now (s .entry)) r ⌝ }
 {
     let h = components::begin(k, s);

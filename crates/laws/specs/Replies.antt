@@ -1,0 +1,98 @@
+-- Each reply is given exactly when document 01's table says. A call's tests stand in a list, in the order 1, 2, 8, 4, 5, 6, 3;
+-- its reply is that of the first test that holds, and Done where none does (7, Room, is decided last, in `Rooms`).
+use Prim.Native.Nat.{ℕ, _+_}
+use mathlib.Core.Path.{_≡_, refl, sym, ap, _∙_}
+use mathlib.Core.List.{List, [], _∷_, _++_}
+use mathlib.Core.Bool.{Bool, true, false, cond, not}
+use lib.ListN.{length}
+use lib.Dec.{ltb, leb, eqb}
+use borrow.Author.Tests.{le-leb, lt-leb}
+use Rattle.octets.specs.Class.{limit, sepsOf}
+use Rattle.octets.specs.Laws.{split}
+use Rattle.answers.specs.declared.Reply.{Reply}
+use Rattle.answers.specs.declared.Reply.the-variants.{Done, Mode, Length, Absent, Name, Empty, Base, Room, Cursor}
+use Rattle.answers.specs.Outcome.{Outcome, refuse, result, guard, inMode, short}
+
+-- the reply of an outcome
+abbrev pub replyOf : {A : Type 0} → Outcome A → Reply
+replyOf (refuse r) = r
+replyOf (result a) = Done
+
+-- a test, and the reply that it gives where it holds
+pub record Test : Type 0 where
+  pub holds : Bool
+  pub reply : Reply
+
+abbrev pub test : Bool → Reply → Test
+test b r = record { holds = b; reply = r }
+
+-- the reply of the first test that holds
+unfoldable pub firstOf : List Test → Reply
+firstOf [] = Done
+firstOf (t ∷ l) = cond (t .holds) (t .reply) (firstOf l)
+
+-- none of them holds
+unfoldable pub None : List Test → Type 0
+None [] = Unit
+None (t ∷ l) = (t .holds ≡ false) × None l
+
+-- t stands in the list, and no test before it holds
+pub record First (l : List Test) (t : Test) : Type 0 where
+  pub before : List Test
+  pub behind : List Test
+  pub is : l ≡ before ++ t ∷ behind
+  pub none : None before
+  pub holds : t .holds ≡ true
+
+-- one direction: where it holds and none before it, its reply is given
+pub given-when : (a : List Test) (t : Test) (b : List Test) → None a → t .holds ≡ true → firstOf (a ++ t ∷ b) ≡ t .reply
+unfolding firstOf None
+given-when [] t b n h = rw h
+given-when (u ∷ a) t b n h = rw (n .0) (given-when a t b (n .1) h)
+
+pub done-when : (l : List Test) → None l → firstOf l ≡ Done
+unfolding firstOf None
+done-when [] n = refl
+done-when (t ∷ l) n = rw (n .0) (done-when l (n .1))
+
+-- the other: a reply that is given comes from a test that holds, none before it, or none holds and it is Done
+pub data Why (l : List Test) (r : Reply) : Type 0 where
+  by : (t : Test) → First l t → r ≡ t .reply → Why l r
+  otherwise : None l → r ≡ Done → Why l r
+
+why-more : (t : Test) (l : List Test) (r : Reply) → t .holds ≡ false → Why l r → Why (t ∷ l) r
+unfolding None
+why-more t l r h (by u f e) = by u (record { before = t ∷ f .before; behind = f .behind; is = ap (λ (m : List Test). t ∷ m) (f .is); none = (h, f .none); holds = f .holds }) e
+why-more t l r h (otherwise n e) = otherwise (h, n) e
+
+first-yes : (t : Test) (l : List Test) → t .holds ≡ true → firstOf (t ∷ l) ≡ t .reply
+unfolding firstOf
+first-yes t l e = rw e
+
+first-no : (t : Test) (l : List Test) → t .holds ≡ false → firstOf (t ∷ l) ≡ firstOf l
+unfolding firstOf
+first-no t l e = rw e
+
+pub only-when : (l : List Test) → Why l (firstOf l)
+unfolding None
+only-when [] = otherwise tt (done-when [] tt)
+only-when (t ∷ l) =
+    split (t .holds)
+    (λ e. by t (record { before = []; behind = l; is = refl; none = tt; holds = e }) (first-yes t l e))
+    (λ e. rw (first-no t l e) (why-more t l (firstOf l) e (only-when l)))
+
+-- a guard in front of an outcome is a test in front of its tests
+pub guard-first : {A : Type 0} (b : Bool) (r : Reply) (o : Outcome A) (l : List Test) → replyOf o ≡ firstOf l → replyOf (guard b r o) ≡ firstOf (test b r ∷ l)
+unfolding guard firstOf
+guard-first b r o l e = split b (λ t. rw t) (λ t. rw t e)
+
+pub result-first : {A : Type 0} (a : A) → replyOf (result a) ≡ firstOf []
+unfolding firstOf
+result-first a = refl
+
+-- the two tests of every call: 1 and 2
+abbrev pub mode : ℕ → Test
+mode m = test (ltb 1 m) Mode
+
+abbrev pub long : List ℕ → Test
+long s = test (ltb limit (length s)) Length

@@ -1,0 +1,25 @@
+use borrow.Author.Needs.{needs}
+use Rattle.setters.specs.Laws.{setting}
+use Rattle.setters.proofs.set_extension_in.Statement.{statement}
+use Rattle.setters.proofs.set_extension_in.Tie as tie
+
+pub set-extension-in-spec : {M : Type 1} → statement M
+set-extension-in-spec =
+    tie.close
+    (tie.spec
+    (λ c κs. search (needs, setting))
+    (λ c κs. search (needs, setting))
+    (λ c. search (needs, setting))
+    (λ c κs. search (needs, setting))
+    (λ c. search (needs, setting))
+    (λ c κs. search (needs, setting))
+    (λ c. search (needs, setting))
+    (λ c κs. search (needs, setting))
+    (λ c. search (needs, setting))
+    (λ c. search (needs, setting))
+    (λ c. search (needs, setting))
+    (λ c. search (needs, setting))
+    (λ c κs. search (needs, setting))
+    (λ c. search (needs, setting))
+    (λ c. search (needs, setting))
+    (λ c. search (needs, setting)))

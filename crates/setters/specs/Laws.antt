@@ -1,0 +1,145 @@
+-- Laws of the setters: one a way through each function.
+use Prim.Native.Nat.{ℕ, _+_, _-_, _*_, _^_, _<_, _≤_}
+use native.Mathlib.Nat.{sub-zero}
+use mir.Syntax.{w64}
+use mir.Val.{Fits}
+use native.Mathlib.Omega.{arith}
+use native.Mathlib.Numerals.{add-one}
+use mathlib.Core.Path.{_≡_, refl, sym, ap, _∙_}
+use mathlib.Core.List.{List, [], _∷_, _++_}
+use mathlib.Core.Bool.{Bool, true, false, cond, not}
+use lib.ListN.{length, getD, take, drop, drop-of-length-le}
+use lib.Seq.{take-length, length-take-le, drop-cons}
+use borrow.Author.Tests.{eq-eqb, ne-eqb}
+use Rattle.octets.specs.Class.{isSep, limit}
+use Rattle.octets.specs.declared.Seps.{Seps}
+use Rattle.answers.specs.declared.Reply.the-variants.{Absent, Name}
+use Rattle.answers.specs.declared.View.{View}
+use Rattle.answers.specs.Reply.{refusedView, seen}
+use Rattle.answers.specs.Outcome.{Outcome, refuse, result, told, guard, plain}
+use Rattle.answers.specs.Written.{Wrote}
+use Rattle.buffers.specs.Laws.{refused}
+use Rattle.parts.specs.declared.Component.{Component}
+use Rattle.parts.specs.declared.Component.the-variants.{Prefix, RootDir, CurDir, ParentDir, Normal}
+use Rattle.parts.specs.declared.Element.{Element}
+use Rattle.parts.specs.declared.Item.{Item}
+use Rattle.parts.specs.declared.Item.the-variants.{Missing, Here}
+use Rattle.parts.specs.declared.Part.{Part}
+use Rattle.parts.specs.declared.Piece.{Piece}
+use Rattle.parts.specs.declared.Piece.the-variants.{Nothing, Found}
+use Rattle.parts.specs.Elements.{nthBackOf}
+use Rattle.parts.specs.Steps.{lift, raised}
+use Rattle.components.specs.List.{listOf}
+use Rattle.joins.specs.Join.{joined}
+use Rattle.views.specs.Views.{leavesKind, leaves, isNormal, named, lastName, restBack, parentOf, onItem, ofName, stemSeen, fileStemOf}
+use Rattle.views.specs.Leaves.{ViewAt, NameAt}
+use Rattle.setters.specs.Set.{isNamed, baseOf, holds, pointed, onView, extended}
+use Rattle.setters.specs.Leaves.{BaseAt, holdsFrom}
+
+-- a last component that is a name has a parent before it
+named-leaves : (i : Item) (p : Element) → named i ≡ Here p → leaves i ≡ true
+named-leaves Missing p e = let z : _≡_ {A = ℕ} 0 1 = cc in absurd (omega arith)
+named-leaves (Here q) p e = go (q .component) refl
+  where
+    go : (c : Component) → q .component ≡ c → leavesKind (q .component) ≡ true
+    go (Prefix x) f = let g = rw f at e in let z : _≡_ {A = ℕ} 0 1 = cc in absurd (omega arith)
+    go RootDir f = let g = rw f at e in let z : _≡_ {A = ℕ} 0 1 = cc in absurd (omega arith)
+    go CurDir f = rw f
+    go ParentDir f = rw f
+    go Normal f = rw f
+
+-- `base_len`
+module _ (k : Seps) (p : List ℕ) (n : Piece) (a : NameAt k p n) where
+  pub base-whole : n ≡ Nothing → BaseAt k p (length p)
+  unfolding baseOf
+  base-whole e =
+      let i : lastName k p ≡ Missing = sym (a .is) ∙ rw e in
+      record { is = rw i (take-length p); high = omega arith }
+
+  module _ (q : Part) (e : n ≡ Found q) where
+    name-of : lastName k p ≡ Here (lift q)
+    name-of = sym (a .is) ∙ rw e
+
+    parent-of : told refusedView (parentOf k p) ≡ restBack k p 1
+    unfolding parentOf told guard lastName
+    parent-of = rw (named-leaves (nthBackOf (listOf k p) 0) (lift q) name-of)
+
+    pub base-parent : (v : View) → ViewAt (parentOf k p) p v → BaseAt k p (v .len)
+    unfolding baseOf
+    base-parent v w =
+        let f : v ≡ restBack k p 1 = w .is ∙ parent-of in
+        record { is = rw (name-of, f); high = omega (arith, w .inside) }
+
+-- `set_file_name_in`
+module _ (k : Seps) (p q : List ℕ) (r : ℕ) (b : BaseAt k p r) where
+  pub base-short : length p ≤ limit → length (take r p) ≤ limit
+  base-short h = omega (arith, length-take-le r p (b .high), b .high)
+
+  -- the part `&p[0..r]` is `take (r - 0) p`
+  pub set-is : (a : View) (x y : List ℕ) → Wrote (result (joined k (take (r - 0) p) q)) a x y → Wrote (result (joined k (baseOf k p) q)) a x y
+  set-is a x y w = rw (sub-zero, b .is) at w
+
+-- `holds_sep`
+module _ (sep : ℕ → Bool) (e : List ℕ) where
+  pub holds-start : holds sep e ≡ holdsFrom sep e 0
+  unfolding holdsFrom
+  holds-start = refl
+
+  module _ (i : ℕ) (f : holds sep e ≡ holdsFrom sep e i) where
+    pub holds-not : length e ≤ i → false ≡ holds sep e
+    unfolding holdsFrom holds
+    holds-not h = sym (f ∙ rw (drop-of-length-le e h))
+
+    module _ (h : i < length e) (b : Bool) (t : b ≡ sep (getD e i 0)) where
+      pub holds-here : b ≡ true → true ≡ holds sep e
+      unfolding holdsFrom holds
+      holds-here y = sym (f ∙ rw (drop-cons e i 0 h, ← t, y))
+
+      pub holds-on : b ≡ false → holds sep e ≡ holdsFrom sep e (i + 1)
+      unfolding holdsFrom holds
+      holds-on n = f ∙ rw (drop-cons e i 0 h, ← t, n, add-one)
+
+-- `put_extension`
+module _ (p e : List ℕ) (a : View) (x y : List ℕ) where
+  pub put-none : length e ≡ 0 → Wrote (result p) a x y → Wrote (result (pointed p e)) a x y
+  unfolding pointed
+  put-none z w = rw (eq-eqb (length e) 0 z) w
+
+  pub put-some : (length e ≡ 0 → ⊥) → Wrote (result (p ++ (46 ∷ []) ++ e)) a x y → Wrote (result (pointed p e)) a x y
+  unfolding pointed
+  put-some z w = rw (ne-eqb (length e) 0 z) w
+
+-- `set_extension_in`
+module _ (k : Seps) (p e : List ℕ) (b : Bool) (t : b ≡ holds (isSep k) e) where
+  pub name-refused : (a : View) (x : List ℕ) → b ≡ true → a ≡ refusedView Name → Wrote (extended k p e) a x x
+  unfolding extended guard
+  name-refused a x y f = rw (← t, y, f) refused
+
+  module _ (m : b ≡ false) (n : Piece) (w : NameAt k p n) where
+    pub stem-absent : (a : View) (x : List ℕ) → n ≡ Nothing → a ≡ refusedView Absent → Wrote (extended k p e) a x x
+    unfolding extended guard ofName
+    stem-absent a x g f =
+        let i : lastName k p ≡ Missing = sym (w .is) ∙ rw g in
+        rw (← t, m, i, f) refused
+
+    module _ (q : Part) (g : n ≡ Found q) (v : View) (s : ViewAt (fileStemOf k p) p v) where
+      stem-of : fileStemOf k p ≡ result v
+      unfolding ofName stemSeen told
+      stem-of =
+          let i : lastName k p ≡ Here (lift q) = sym (w .is) ∙ rw g in
+          rw i (ap (λ (z : View). result z) (sym (rw i at (s .is))))
+
+      pub stem-fits : length p ≤ limit → Fits w64 (v .start + v .len)
+      stem-fits h = record { fits = omega (arith, s .inside) }
+
+      pub stem-inside : v .start + v .len ≤ length p
+      stem-inside = s .inside
+
+      pub stem-short : length p ≤ limit → length (take (v .start + v .len) p) ≤ limit
+      stem-short h = omega (arith, length-take-le (v .start + v .len) p (s .inside), s .inside)
+
+      pub extension-set : (a : View) (x y : List ℕ) → Wrote (result (pointed (take (v .start + v .len - 0) p) e)) a x y → Wrote (extended k p e) a x y
+      unfolding extended guard
+      extension-set a x y o = rw (← t, m, stem-of) (rw sub-zero at o)
+
+pub ruleset setting = (base-whole, base-parent, base-short, set-is, holds-start, holds-not, holds-here, holds-on, put-none, put-some, name-refused, stem-absent, stem-fits, stem-inside, stem-short, extension-set)

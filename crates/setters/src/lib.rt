@@ -1,0 +1,79 @@
+// A path with another file name, or with another extension.
+use answers::Reply;
+use answers::View;
+use octets::Seps;
+use parts::Piece;
+ghost use mathlib.Core.Path.{_≡_};
+ghost use Prim.Native.Nat.{ℕ, _≤_};
+ghost use lib.ListN.{length};
+ghost use Rattle.octets.specs.Class.{isSep, limit};
+ghost use Rattle.answers.specs.Outcome.{result};
+ghost use Rattle.answers.specs.Written.{Wrote};
+ghost use Rattle.joins.specs.Join.{joined};
+ghost use Rattle.setters.specs.Set.{holds, baseOf, pointed, extended};
+ghost use Rattle.setters.specs.Leaves.{BaseAt};
+
+// How many bytes of p stand before its file name: those of its parent, or all where it has no name.
+fn base_len(k: Seps, p: &[u8]) -> usize
+    ensures { λ r. ⌜ BaseAt k (now (p .entry)) r ⌝ }
+{
+    let n = views::name_part(k, p);
+    match n {
+        Piece::Nothing => p.len(),
+        Piece::Found(_) => {
+            let v = views::parent(k, p);
+            v.len
+        }
+    }
+}
+
+pub fn set_file_name_in(k: Seps, p: &[u8], q: &[u8], out: &mut [u8]) -> View
+    requires { ⌜ (length (now p) ≤ limit) × (length (now q) ≤ limit) ⌝ }
+    ensures { λ r. ⌜ Wrote (result (joined k (baseOf k (now (p .entry))) (now (q .entry)))) r (now (out .entry)) (now (out .exit)) ⌝ }
+{
+    let e = base_len(k, p);
+    joins::join_in(k, &p[0..e], q, out)
+}
+
+// Whether a separator stands in e.
+fn holds_sep(k: Seps, e: &[u8]) -> bool
+    ensures { λ r. ⌜ r ≡ holds (isSep k) (now (e .entry)) ⌝ }
+{
+    let mut i = 0;
+    while i < e.len() {
+        if octets::is_sep(k, e[i]) {
+            return true;
+        }
+        i += 1;
+    }
+    false
+}
+
+pub fn set_extension_in(k: Seps, p: &[u8], e: &[u8], out: &mut [u8]) -> View
+    requires { ⌜ (length (now p) ≤ limit) × (length (now e) ≤ limit) ⌝ }
+    ensures { λ r. ⌜ Wrote (extended k (now (p .entry)) (now (e .entry))) r (now (out .entry)) (now (out .exit)) ⌝ }
+{
+    if holds_sep(k, e) {
+        return answers::refuse_view(Reply::Name);
+    }
+    let n = views::name_part(k, p);
+    match n {
+        Piece::Nothing => answers::refuse_view(Reply::Absent),
+        Piece::Found(_) => {
+            let v = views::file_stem(k, p);
+            let end = v.start + v.len;
+            put_extension(&p[0..end], e, out)
+        }
+    }
+}
+
+// A path that ends with a stem, and behind it a dot and the extension, if there is one.
+fn put_extension(p: &[u8], e: &[u8], out: &mut [u8]) -> View
+    requires { ⌜ (length (now p) ≤ limit) × (length (now e) ≤ limit) ⌝ }
+    ensures { λ r. ⌜ Wrote (result (pointed (now (p .entry)) (now (e .entry)))) r (now (out .entry)) (now (out .exit)) ⌝ }
+{
+    if e.len() == 0 {
+        return buffers::lay(b"", b"", p, out);
+    }
+    buffers::lay(p, b".", e, out)
+}

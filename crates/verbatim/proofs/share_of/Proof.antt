@@ -1,0 +1,15 @@
+use borrow.Author.Needs.{needs}
+use Rattle.verbatim.specs.Sharing.{shares}
+use Rattle.verbatim.proofs.share_of.Statement.{statement}
+use Rattle.verbatim.proofs.share_of.Tie as tie
+
+pub share-of-spec : {M : Type 1} → statement M
+share-of-spec =
+    tie.close
+    (tie.spec
+    (λ c κs. search (needs, shares))
+    (λ c κs. search (needs, shares))
+    (λ c κs. search (needs, shares))
+    (λ c. search (needs, shares))
+    (λ c κs. search (needs, shares))
+    (λ c. search (needs, shares)))
