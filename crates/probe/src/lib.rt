@@ -170,12 +170,22 @@ pub extern "C" fn probe_compare(mode: usize, p: &[u8], q: &[u8], answer: &mut [u
 }
 
 #[no_mangle]
-pub extern "C" fn probe_starts_with(mode: usize, p: &[u8], q: &[u8], answer: &mut [usize; 1]) -> usize {
+pub extern "C" fn probe_starts_with(
+    mode: usize,
+    p: &[u8],
+    q: &[u8],
+    answer: &mut [usize; 1],
+) -> usize {
     verdict(paths::starts_with(mode, p, q), answer)
 }
 
 #[no_mangle]
-pub extern "C" fn probe_ends_with(mode: usize, p: &[u8], q: &[u8], answer: &mut [usize; 1]) -> usize {
+pub extern "C" fn probe_ends_with(
+    mode: usize,
+    p: &[u8],
+    q: &[u8],
+    answer: &mut [usize; 1],
+) -> usize {
     verdict(paths::ends_with(mode, p, q), answer)
 }
 
