@@ -1,6 +1,6 @@
 -- E11, E12, and others.
 use mathlib.Core.Path.{_≡_, refl}
-use mathlib.Core.List.{List, [], _∷_}
+use mathlib.Core.List.{[], _∷_}
 use Rattle.octets.specs.Class.{classOf, isLetter}
 use Rattle.octets.specs.Segment.{lead}
 use Rattle.octets.specs.declared.Seps.the-variants.{Unix, Windows}

@@ -1,9 +1,9 @@
 -- Laws of join: what it is in Unix mode, and one law a way through each function.
-use Prim.Native.Nat.{ℕ, _+_, _-_, _*_, _^_, _<_, _≤_}
+use Prim.Native.Nat.{ℕ, _+_, _-_, _^_, _<_, _≤_}
 use native.Mathlib.Omega.{arith}
 use native.Mathlib.Nat.{sub-zero}
-use mathlib.Core.Path.{_≡_, refl, sym, ap, _∙_}
-use mathlib.Core.Bool.{Bool, true, false, cond, false≢true}
+use mathlib.Core.Path.{_≡_, refl, sym, _∙_}
+use mathlib.Core.Bool.{Bool, true, false, false≢true}
 use mathlib.Core.List.{List, [], _∷_, _++_}
 use lib.ListN.{length, take}
 use lib.Seq.{length-take-le}
@@ -16,12 +16,11 @@ use Rattle.octets.specs.declared.Seps.the-variants.{Unix, Windows, Verbatim as 
 use Rattle.answers.specs.declared.View.{View}
 use Rattle.answers.specs.Outcome.{result}
 use Rattle.answers.specs.Written.{Wrote}
-use Rattle.prefixes.specs.declared.Prefix.{Prefix}
 use Rattle.prefixes.specs.declared.Parsed.{Parsed}
 use Rattle.prefixes.specs.declared.Parsed.the-variants.{Nothing, Is}
-use Rattle.prefixes.specs.Prefix.{prefixIn, lenOf, endOfPrefix}
+use Rattle.prefixes.specs.Prefix.{prefixIn, endOfPrefix}
 use Rattle.prefixes.specs.Laws.{end-within}
-use Rattle.components.specs.List.{sepAt, dotAt, dirOf, startOf, isDisk, hasRoot, isAbsolute}
+use Rattle.components.specs.List.{sepAt, dotAt, dirOf, startOf, hasRoot, isAbsolute}
 use Rattle.seams.specs.Seam.{sepOf, wants, glued, seamed}
 use Rattle.verbatim.specs.Verbatim.{verbatimIn, verbatimJoin}
 use Rattle.joins.specs.Join.{hasPrefix, replaced, mended, diskIn, mereDisk, parted, joined}

@@ -5,7 +5,7 @@ use prefixes::Parsed;
 use prefixes::Prefix;
 ghost use mathlib.Core.Path.{_≡_};
 ghost use mathlib.Core.List.{_++_};
-ghost use Prim.Native.Nat.{ℕ, _≤_};
+ghost use Prim.Native.Nat.{_≤_};
 ghost use lib.ListN.{length, take};
 ghost use Rattle.octets.specs.Class.{limit};
 ghost use Rattle.answers.specs.Outcome.{result};

@@ -1,3 +1,5 @@
 pub mod Examples
 pub mod Walks
 pub mod Replies
+pub mod Values
+pub mod Joins

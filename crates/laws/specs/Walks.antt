@@ -56,7 +56,7 @@ pub record Stands (l : List Element) (f : ℕ) : Type 0 where
   pub before : take (suc f) l ≡ take f l ++ (element ∷ [])
   pub behind : drop f l ≡ element ∷ drop (suc f) l
 
-stands : (l : List Element) (f : ℕ) → f < length l → Stands l f
+pub stands : (l : List Element) (f : ℕ) → f < length l → Stands l f
 unfolding nthOf
 stands [] f h = absurd (omega arith)
 stands (x ∷ l) zero h = record { element = x; is = refl; before = refl; behind = refl }

@@ -81,7 +81,8 @@ pub fn cmp_bytes(a: &[u8], b: &[u8]) -> Ordering
         }
         return Ordering::Greater;
     }
-    if i < b.len() {
+    let end = b.len();
+    if i < end {
         return Ordering::Less;
     }
     Ordering::Equal

@@ -1,18 +1,15 @@
 -- Laws of a verbatim join: what stays of a list laid onto another, and one law a way through each function.
-use Prim.Native.Nat.{ℕ, zero, suc, _+_, _-_, _*_, _^_, _<_, _≤_}
+use Prim.Native.Nat.{ℕ, zero, suc, _+_, _-_, _^_, _<_, _≤_}
 use mir.Syntax.{w64}
 use mir.Val.{Fits}
 use native.Mathlib.Numerals.{add-one, sub-one}
 use native.Mathlib.Omega.{arith}
 use mathlib.Core.Path.{_≡_, refl, sym, ap, _∙_}
 use mathlib.Core.List.{List, [], _∷_, _++_, append-nil, append-assoc}
-use mathlib.Core.Bool.{Bool, true, false, cond, false≢true}
+use mathlib.Core.Bool.{Bool, true, false, false≢true}
 use lib.ListN.{length, take, drop, length-append, length-drop}
-use lib.Seq.{take-length, length-take-le, drop-at}
-use lib.Dec.{eqb}
-use borrow.Author.Tests.{eq-eqb, ne-eqb}
+use lib.Seq.{length-take-le}
 use Rattle.octets.specs.Class.{isSep, limit}
-use Rattle.octets.specs.Laws.{split}
 use Rattle.octets.specs.declared.Seps.{Seps}
 use Rattle.octets.specs.declared.Seps.the-variants.{Unix, Windows, Verbatim as OnlyBack}
 use Rattle.parts.specs.declared.Component.{Component}
@@ -25,13 +22,12 @@ use Rattle.parts.specs.declared.Piece.{Piece}
 use Rattle.parts.specs.declared.Piece.the-variants.{Nothing as None, Found}
 use Rattle.parts.specs.Body.{componentOf, dots, from}
 use Rattle.parts.specs.Steps.{lift, within, LastAt}
-use Rattle.parts.specs.Laws.{few, last-none, last-found, Bodily, Good, Goods, from-good}
+use Rattle.parts.specs.Laws.{few, last-none, last-found, Bodily, Goods, from-good}
 use Rattle.verbatim.specs.declared.Sift.{Sift}
 use Rattle.verbatim.specs.declared.Sift.the-variants.{Keep, Drop}
 use Rattle.verbatim.specs.declared.Span.{Span}
-use Rattle.verbatim.specs.declared.Tally.{Tally}
-use Rattle.verbatim.specs.Verbatim.{Value, valueOf, valuesOf, unlessNormal, popped, added, laid, written}
-use Rattle.verbatim.specs.Leaves.{mendOf, siftOf, leftBy, keptBy, owed, kept, flat, bulk, owedAt, textAt, spanText, Reading, Tallied, Counting, behindText}
+use Rattle.verbatim.specs.Verbatim.{Value, valueOf, valuesOf, unlessNormal, popped, added, laid}
+use Rattle.verbatim.specs.Leaves.{mendOf, siftOf, leftBy, keptBy, owed, kept, flat, bulk, owedAt, textAt, Reading, Tallied, Counting}
 
 -- `mend`, `sift_kind`
 module _ (k : Seps) (d : ℕ) where

@@ -1,15 +1,12 @@
 -- What the result is made of: a verbatim join's definition, in terms of what stays of the two bodies.
-use Prim.Native.Nat.{ℕ, _+_, _-_, _*_, _^_, _<_, _≤_}
-use mir.Syntax.{w64}
-use mir.Val.{Fits}
+use Prim.Native.Nat.{ℕ, _+_, _-_}
 use native.Mathlib.Omega.{arith}
 use mathlib.Core.Path.{_≡_, refl, sym, ap, _∙_}
-use mathlib.Core.List.{List, [], _∷_, _++_, append-nil, append-assoc}
+use mathlib.Core.List.{List, [], _∷_, _++_, append-assoc}
 use mathlib.Core.Bool.{Bool, true, false, cond, false≢true}
 use lib.ListN.{length, take, drop, length-append}
-use lib.Seq.{take-length, length-take-le}
-use borrow.Author.Tests.{ne-eqb}
-use Rattle.octets.specs.Class.{isSep, limit}
+use lib.Seq.{take-length}
+use Rattle.octets.specs.Class.{isSep}
 use Rattle.octets.specs.Laws.{split}
 use Rattle.octets.specs.declared.Seps.{Seps}
 use Rattle.octets.specs.declared.Seps.the-variants.{Windows, Verbatim as OnlyBack}
@@ -32,7 +29,6 @@ use Rattle.components.specs.Laws.{whole-list}
 use Rattle.verbatim.specs.declared.Span.{Span}
 use Rattle.verbatim.specs.declared.Tally.{Tally}
 use Rattle.verbatim.specs.declared.Share.{Share}
-use Rattle.verbatim.specs.declared.Plan.{Plan}
 use Rattle.verbatim.specs.Verbatim.{verbatimKind, verbatimIn, Value, valuesOf, laid, isRootDir, textOf, written, verbatimJoin}
 use Rattle.verbatim.specs.Leaves.{owed, kept, flat, owedAt, textAt, spanText, Tallied, rootsOf, behindText, bothText, Shared, planText, Planned}
 use Rattle.verbatim.specs.Laws.{inBody, pops, pops-stay, PlainV, values-plain, append-plain, kept-plain, laid-kept, own-kept, values-append, flat-append}

@@ -2,10 +2,10 @@
 use Prim.Native.Nat.{ℕ, _+_, _-_, _<_, _≤_}
 use native.Mathlib.Omega.{arith}
 use native.Mathlib.Nat.{sub-zero}
-use mathlib.Core.Path.{_≡_, refl, sym, ap, _∙_}
+use mathlib.Core.Path.{_≡_, sym, ap, _∙_}
 use mathlib.Core.List.{List, [], _∷_, _++_, append-assoc}
-use mathlib.Core.Bool.{Bool, true, false, cond}
-use lib.ListN.{length, take, drop, length-append, length-drop}
+use mathlib.Core.Bool.{true, false}
+use lib.ListN.{length, take, drop, length-append}
 use lib.Seq.{length-take-le, drop-at}
 use Rattle.octets.specs.Class.{isSep}
 use Rattle.octets.specs.declared.Seps.{Seps}
@@ -21,7 +21,6 @@ use Rattle.parts.specs.declared.Piece.{Piece}
 use Rattle.parts.specs.declared.Piece.the-variants.{Nothing as None, Found}
 use Rattle.parts.specs.Body.{componentOf, dots}
 use Rattle.parts.specs.Steps.{LastAt}
-use Rattle.parts.specs.Laws.{last-found}
 use Rattle.verbatim.specs.declared.Sift.{Sift}
 use Rattle.verbatim.specs.declared.Sift.the-variants.{Keep, Drop}
 use Rattle.verbatim.specs.declared.Plan.{Plan}
