@@ -176,11 +176,11 @@ pub const FILE_NAME: &[u8] = b"dose-12.map";
 pub const EXTENSION: &[u8] = b"bin";
 
 /// The library's form.
-pub fn ours<'a>(call: Call, mode: Mode, i: &'a [Input]) -> Option<Timed<'a>> {
+pub fn ours<'a>(call: Call, mode: Mode, i: &'a [Input]) -> Timed<'a> {
     // a number that the compiler does not know
     let m = black_box(mode as usize);
     let mut out = vec![0; ROOM];
-    Some(match call {
+    match call {
         Call::Prefix(head) => numbered(i, move |x, n| ours::prefix(m, &x.prefixed[head], n)),
         Call::Front(at) => numbered(i, move |x, n| ours::next(m, at.of(x.count), 0, &x.p, n)),
         Call::Back(at) => numbered(i, move |x, n| ours::next_back(m, 0, at.of(x.count), &x.p, n)),
@@ -193,10 +193,19 @@ pub fn ours<'a>(call: Call, mode: Mode, i: &'a [Input]) -> Option<Timed<'a>> {
         Call::Extension => numbered(i, move |x, n| ours::extension(m, &x.p, n)),
         Call::HasRoot => numbered(i, move |x, n| ours::has_root(m, &x.p, n)),
         Call::IsAbsolute => numbered(i, move |x, n| ours::is_absolute(m, &x.p, n)),
+        Call::CompareSame => numbered(i, move |x, n| ours::compare(m, &x.p, &x.same, n)),
+        Call::CompareNear => numbered(i, move |x, n| ours::compare(m, &x.p, &x.near, n)),
+        Call::CompareFar => numbered(i, move |x, n| ours::compare(m, &x.p, &x.far, n)),
+        Call::Starts => numbered(i, move |x, n| ours::starts_with(m, &x.p, &x.base, n)),
+        Call::Ends => numbered(i, move |x, n| ours::ends_with(m, &x.p, &x.tail, n)),
+        Call::Strip => numbered(i, move |x, n| ours::strip_prefix(m, &x.p, &x.base, n)),
+        Call::Join => numbered(i, move |x, n| ours::join(m, &x.p, &x.q, &mut out, n)),
+        Call::JoinVerbatim => numbered(i, move |x, n| ours::join(m, &x.verbatim, &x.up, &mut out, n)),
+        Call::SetFileName => numbered(i, move |x, n| ours::set_file_name(m, &x.p, FILE_NAME, &mut out, n)),
+        Call::SetExtension => numbered(i, move |x, n| ours::set_extension(m, &x.p, EXTENSION, &mut out, n)),
         Call::AbsolutePath => numbered(i, move |x, n| ours::absolute(m, &x.p, CWD, &mut out, n)),
         Call::AbsoluteRelative => numbered(i, move |x, n| ours::absolute(m, &x.relative, CWD, &mut out, n)),
-        _ => return None,
-    })
+    }
 }
 
 /// The Rust's forms of the calls that both flavours have. Where the Rust hands

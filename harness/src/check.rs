@@ -30,7 +30,7 @@ pub struct Checker {
 }
 
 impl Checker {
-    /// Asks both. A call that the library does not have yet is not counted.
+    /// Asks both.
     pub fn check(&mut self, asked: &Asked<'_>) {
         let room = if asked.word.writes() { asked.nums[1] } else { 0 };
         if room > LARGEST_ROOM {
@@ -47,7 +47,6 @@ impl Checker {
             let same = reply == want.reply as usize && same_numbers(asked, &want, nums);
             if same { None } else { Some((reply, nums.to_vec())) }
         });
-        let Some(got) = got else { return };
         self.cases += 1;
         let buffer_same = mended(&mut memory[..whole], &want.written);
         if got.is_some() || !buffer_same {

@@ -31,12 +31,74 @@ unsafe extern "C" {
     fn probe_extension(mode: usize, p: *const u8, n: usize, answer: &mut [usize; 2]) -> usize;
     fn probe_has_root(mode: usize, p: *const u8, n: usize, answer: &mut [usize; 1]) -> usize;
     fn probe_is_absolute(mode: usize, p: *const u8, n: usize, answer: &mut [usize; 1]) -> usize;
+    fn probe_compare(
+        mode: usize,
+        p: *const u8,
+        n: usize,
+        q: *const u8,
+        q_n: usize,
+        answer: &mut [usize; 1],
+    ) -> usize;
+    fn probe_starts_with(
+        mode: usize,
+        p: *const u8,
+        n: usize,
+        q: *const u8,
+        q_n: usize,
+        answer: &mut [usize; 1],
+    ) -> usize;
+    fn probe_ends_with(
+        mode: usize,
+        p: *const u8,
+        n: usize,
+        q: *const u8,
+        q_n: usize,
+        answer: &mut [usize; 1],
+    ) -> usize;
+    fn probe_strip_prefix(
+        mode: usize,
+        p: *const u8,
+        n: usize,
+        q: *const u8,
+        q_n: usize,
+        answer: &mut [usize; 2],
+    ) -> usize;
+    fn probe_join(
+        mode: usize,
+        p: *const u8,
+        n: usize,
+        q: *const u8,
+        q_n: usize,
+        out: *mut u8,
+        room: usize,
+        answer: &mut [usize; 2],
+    ) -> usize;
+    fn probe_set_file_name(
+        mode: usize,
+        p: *const u8,
+        n: usize,
+        q: *const u8,
+        q_n: usize,
+        out: *mut u8,
+        room: usize,
+        answer: &mut [usize; 2],
+    ) -> usize;
+    fn probe_set_extension(
+        mode: usize,
+        p: *const u8,
+        n: usize,
+        q: *const u8,
+        q_n: usize,
+        out: *mut u8,
+        room: usize,
+        answer: &mut [usize; 2],
+    ) -> usize;
     fn probe_absolute(
         mode: usize,
         p: *const u8,
         n: usize,
-        cwd: *const u8,
-        cwd_n: usize,
+        q: *const u8,
+        q_n: usize,
         out: *mut u8,
         room: usize,
         answer: &mut [usize; 2],
@@ -96,6 +158,23 @@ pub fn ancestor(mode: usize, n: usize, p: &[u8], answer: &mut [usize; 2]) -> usi
     unsafe { probe_ancestor(mode, n, at(p), p.len(), answer) }
 }
 
+macro_rules! of_two_paths {
+    ($($name:ident = $probe:ident -> $n:literal;)*) => {$(
+        #[inline]
+        pub fn $name(mode: usize, p: &[u8], q: &[u8], answer: &mut [usize; $n]) -> usize {
+            // SAFETY: as above
+            unsafe { $probe(mode, at(p), p.len(), at(q), q.len(), answer) }
+        }
+    )*};
+}
+
+of_two_paths! {
+    compare = probe_compare -> 1;
+    starts_with = probe_starts_with -> 1;
+    ends_with = probe_ends_with -> 1;
+    strip_prefix = probe_strip_prefix -> 2;
+}
+
 macro_rules! of_a_buffer {
     ($($name:ident = $probe:ident;)*) => {$(
         #[inline]
@@ -107,6 +186,9 @@ macro_rules! of_a_buffer {
 }
 
 of_a_buffer! {
+    join = probe_join;
+    set_file_name = probe_set_file_name;
+    set_extension = probe_set_extension;
     absolute = probe_absolute;
 }
 
@@ -115,15 +197,14 @@ of_a_buffer! {
 fn told<const N: usize, R>(
     call: impl FnOnce(&mut [usize; N]) -> usize,
     see: impl FnOnce(usize, &[usize]) -> R,
-) -> Option<R> {
+) -> R {
     let mut answer = [usize::MAX - 1; N];
     let reply = call(&mut answer);
-    Some(see(reply, &answer))
+    see(reply, &answer)
 }
 
-/// The call that a word names, for whoever goes through all of them. None
-/// where the archive has no such call.
-pub fn ask<R>(a: &Asked<'_>, out: &mut [u8], see: impl FnOnce(usize, &[usize]) -> R) -> Option<R> {
+/// The call that a word names, for whoever goes through all of them.
+pub fn ask<R>(a: &Asked<'_>, out: &mut [u8], see: impl FnOnce(usize, &[usize]) -> R) -> R {
     let [m, f, b] = a.nums.map(|n| n as usize);
     let [p, q] = a.bytes;
     match a.word {
@@ -138,7 +219,13 @@ pub fn ask<R>(a: &Asked<'_>, out: &mut [u8], see: impl FnOnce(usize, &[usize]) -
         Word::Extension => told(|n| extension(m, p, n), see),
         Word::Root => told(|n| has_root(m, p, n), see),
         Word::IsAbsolute => told(|n| is_absolute(m, p, n), see),
+        Word::Compare => told(|n| compare(m, p, q, n), see),
+        Word::Starts => told(|n| starts_with(m, p, q, n), see),
+        Word::Ends => told(|n| ends_with(m, p, q, n), see),
+        Word::Strip => told(|n| strip_prefix(m, p, q, n), see),
+        Word::Join => told(|n| join(m, p, q, out, n), see),
+        Word::SetName => told(|n| set_file_name(m, p, q, out, n), see),
+        Word::SetExtension => told(|n| set_extension(m, p, q, out, n), see),
         Word::Absolute => told(|n| absolute(m, p, q, out, n), see),
-        _ => None,
     }
 }

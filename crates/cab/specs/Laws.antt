@@ -2,7 +2,12 @@
 use Prim.Native.Nat.{ℕ}
 use mathlib.Core.Path.{_≡_, sym, ap, _∙_}
 use mathlib.Core.List.{List, [], _∷_}
+use lib.ListN.{length}
+use Rattle.answers.specs.declared.Verdict.{Verdict}
+use Rattle.answers.specs.declared.View.{View}
 use Rattle.answers.specs.Reply.{numberOf}
+use Rattle.answers.specs.Outcome.{Outcome}
+use Rattle.answers.specs.Written.{answered, left, Wrote}
 use Rattle.prefixes.specs.declared.Prefix.{Prefix}
 use Rattle.prefixes.specs.declared.Parsed.{Parsed}
 use Rattle.prefixes.specs.declared.Parsed.the-variants.{Is as Has}
@@ -12,7 +17,7 @@ use Rattle.parts.specs.declared.Component.{Component}
 use Rattle.parts.specs.declared.Component.the-variants.{Prefix as Prefixes}
 use Rattle.paths.specs.declared.Prefixed.{Prefixed}
 use Rattle.paths.specs.declared.steps.Stepped.{Stepped}
-use Rattle.cab.specs.Numbers.{figureNumbers, prefixNumbers, heldPrefix, takenNumber, takenPrefix, stepNumbers}
+use Rattle.cab.specs.Numbers.{figureNumbers, prefixNumbers, heldPrefix, takenNumber, takenPrefix, stepNumbers, orderNumbers, writtenNumbers}
 
 pub prefix-held : (c : Component) (p : Prefix) → c ≡ Prefixes p → Has p ≡ heldPrefix c
 prefix-held c p e = rw e
@@ -29,4 +34,17 @@ module _ (a : Stepped) where
   pub step-same : (x : Stepped) (l : List ℕ) → a ≡ x → l ≡ stepNumbers a → l ≡ stepNumbers x
   step-same x l e h = h ∙ ap stepNumbers e
 
-pub ruleset numbers = (prefix-held, prefix-told, step-told, step-same)
+pub order-told : (a x : Verdict) (n : ℕ) → a ≡ x → n ≡ numberOf (a .reply) → n ∷ a .value ∷ [] ≡ orderNumbers x
+unfolding orderNumbers
+order-told a x n e h = rw (← e, h)
+
+-- a call that wrote
+module _ (o : Outcome (List ℕ)) (a : View) (before after : List ℕ) (w : Wrote o a before after) where
+  pub join-told : (n : ℕ) → n ≡ numberOf (a .reply) → n ∷ a .len ∷ [] ≡ writtenNumbers (answered (length before) o)
+  unfolding writtenNumbers
+  join-told n h = rw (← w .says, h)
+
+  pub join-left : after ≡ left o before
+  join-left = w .leaves
+
+pub ruleset numbers = (prefix-held, prefix-told, step-told, step-same, order-told, join-told, join-left)

@@ -1,6 +1,8 @@
 -- The answers in numbers, the reply's first, in the order of docs/PROTOCOL.md and of include/bridlestep.h.
 use Prim.Native.Nat.{ℕ}
 use mathlib.Core.List.{List, [], _∷_}
+use Rattle.answers.specs.declared.Verdict.{Verdict}
+use Rattle.answers.specs.declared.View.{View}
 use Rattle.answers.specs.Reply.{numberOf}
 use Rattle.prefixes.specs.declared.Parsed.{Parsed}
 use Rattle.prefixes.specs.declared.Parsed.the-variants.{Nothing as Without, Is as Has}
@@ -51,3 +53,11 @@ stepNumbers a = numberOf (a .reply) ∷ takenNumber (a .component) ∷ figureNum
 
 abbrev pub cursorAt : ℕ → ℕ → ℕ → Cursor
 cursorAt mode front back = record { mode = mode; front = front; back = back }
+
+-- "0 where P comes first, 1 where they are equal, 2 where Q comes first"
+unfoldable pub orderNumbers : Verdict → List ℕ
+orderNumbers a = numberOf (a .reply) ∷ a .value ∷ []
+
+-- the length of what was written; it starts at 0
+unfoldable pub writtenNumbers : View → List ℕ
+writtenNumbers a = numberOf (a .reply) ∷ a .len ∷ []

@@ -7,11 +7,16 @@ use paths::Stepped;
 use paths::Taken;
 use prefixes::Parsed;
 ghost use mathlib.Core.Path.{_≡_};
-ghost use mathlib.Core.List.{_∷_};
+ghost use mathlib.Core.List.{_∷_, []};
+ghost use lib.ListN.{length};
 ghost use Rattle.answers.specs.Outcome.{told};
+ghost use Rattle.answers.specs.Reply.{refusedVerdict};
+ghost use Rattle.answers.specs.Written.{answered, left};
 ghost use Rattle.paths.specs.Prefix.{refusedPrefix, prefixCall};
 ghost use Rattle.paths.specs.Steps.{refusedStep, nextCall, nextBackCall};
-ghost use Rattle.cab.specs.Numbers.{prefixNumbers, heldPrefix, componentNumber, takenPrefix, takenNumber, stepNumbers, cursorAt};
+ghost use Rattle.paths.specs.Pairs.{compareCall};
+ghost use Rattle.paths.specs.Writes.{joinCall};
+ghost use Rattle.cab.specs.Numbers.{prefixNumbers, heldPrefix, componentNumber, takenPrefix, takenNumber, stepNumbers, cursorAt, orderNumbers, writtenNumbers};
 
 #[no_mangle]
 pub extern "C" fn bridlestep_prefix(mode: usize, path: &[u8], answer: &mut [usize; 7]) -> usize
@@ -122,4 +127,32 @@ pub extern "C" fn bridlestep_next_back(
     let c = Cursor { mode, front, back };
     let a = c.next_back(path);
     put_step(a, answer)
+}
+
+#[no_mangle]
+pub extern "C" fn bridlestep_compare(mode: usize, p: &[u8], q: &[u8], order: &mut usize) -> usize
+    ensures { λ r. ⌜ r ∷ now (order .exit) ∷ [] ≡ orderNumbers (told refusedVerdict (compareCall mode (now (p .entry)) (now (q .entry)))) ⌝ }
+{
+    let a = paths::compare(mode, p, q);
+    let reply = a.reply;
+    *order = a.value;
+    answers::number(reply)
+}
+
+// The result stands at the front of out; its start, which is 0, is not handed back.
+#[no_mangle]
+pub extern "C" fn bridlestep_join(
+    mode: usize,
+    p: &[u8],
+    q: &[u8],
+    out: &mut [u8],
+    len: &mut usize,
+) -> usize
+    ensures { λ r. ⌜ r ∷ now (len .exit) ∷ [] ≡ writtenNumbers (answered (length (now (out .entry))) (joinCall mode (now (p .entry)) (now (q .entry)))) ⌝ }
+    ensures { λ _. ⌜ now (out .exit) ≡ left (joinCall mode (now (p .entry)) (now (q .entry))) (now (out .entry)) ⌝ }
+{
+    let a = paths::join(mode, p, q, out);
+    let reply = a.reply;
+    *len = a.len;
+    answers::number(reply)
 }

@@ -87,13 +87,9 @@ fn rows(mode: Mode, rounds: usize, part: &str, best: bool) -> Vec<Row> {
         LENGTHS.iter().flat_map(|&len| NAMES.map(|names| inputs(Shape { mode, len, names }))).collect();
     let mut out = Vec::new();
     for call in calls(mode).into_iter().filter(|c| c.name().contains(part)) {
-        let cells: Option<Vec<Cell>> = shapes
-            .iter()
-            .map(|i| Some(measure(ours(call, mode, i)?, rusts(call, mode, i), rounds, best)))
-            .collect();
-        if let Some(cells) = cells {
-            out.push((call, cells));
-        }
+        let cells =
+            shapes.iter().map(|i| measure(ours(call, mode, i), rusts(call, mode, i), rounds, best)).collect();
+        out.push((call, cells));
         eprint!(".");
     }
     eprintln!();
