@@ -2,6 +2,8 @@
 //! a name here and is counted, so that a run can say how many answers it
 //! touched. Whatever else differs is unlisted, and loud.
 
+use crate::words::Asked;
+
 /// One listed difference between the Rust and document 01 or the protocol.
 #[derive(Clone, Copy, PartialEq, Eq, Debug)]
 pub enum Listed {
@@ -75,27 +77,26 @@ pub struct Tally {
 }
 
 impl Tally {
-    /// Counts one answer that `which` touched; `line` is the request.
-    pub fn touch(&mut self, which: Listed, line: &[u8]) {
+    /// Counts one answer that `which` touched.
+    pub fn touch(&mut self, which: Listed, asked: &Asked<'_>) {
         let at = which as usize;
         self.counts[at] += 1;
-        let key = |l: &[u8]| (l.len(), l.to_vec());
         let smaller = match &self.smallest[at] {
             None => true,
-            Some(old) if line.len() != old.len() => line.len() < old.len(),
-            Some(old) => key(line) < key(old),
+            Some(old) if asked.size() != old.len() => asked.size() < old.len(),
+            Some(old) => asked.line() < *old,
         };
         if smaller {
-            self.smallest[at] = Some(line.to_vec());
+            self.smallest[at] = Some(asked.line());
         }
     }
 
     /// Counts an answer in which the Rust differs and no listed difference
     /// explains it.
-    pub fn unlisted(&mut self, line: &[u8], why: String) {
+    pub fn unlisted(&mut self, asked: &Asked<'_>, why: String) {
         self.unlisted += 1;
         if self.unlisted_first.len() < 10 {
-            self.unlisted_first.push(format!("{}: {why}", crate::readable::request(line)));
+            self.unlisted_first.push(format!("{}: {why}", crate::readable::request(&asked.line())));
         }
     }
 

@@ -7,7 +7,7 @@ use crate::Real;
 use crate::listed::{Listed, Tally};
 use crate::paper::{self, PREFIX, Part};
 use crate::types::{BarePrefix, Dir, Ext, Mode, Paths};
-use crate::words::{Request, Word, put_hex, put_number};
+use crate::words::{Asked, Request, Word, put_hex, put_number};
 use std::cell::RefCell;
 use std::cmp::Ordering;
 
@@ -50,81 +50,115 @@ pub struct Answerer<S = Real> {
 
 type Wanted<T> = Result<T, Reply>;
 
+/// The most numbers behind a reply: those of a step.
+const NUMBERS: usize = 12;
+
+/// An answer before it is text.
+#[derive(Clone, Debug)]
+pub struct Answer {
+    pub reply: Reply,
+    nums: [u64; NUMBERS],
+    count: usize,
+    /// What a call that writes has put at the front of the buffer; empty on a refusal.
+    pub written: Vec<u8>,
+}
+
+impl Answer {
+    /// The reply and the numbers behind it, zeros where it is a refusal.
+    fn new<const N: usize>(got: Wanted<[u64; N]>) -> Answer {
+        let (reply, values) = match got {
+            Ok(values) => (Reply::Done, values),
+            Err(reply) => (reply, [0; N]),
+        };
+        let mut nums = [0; NUMBERS];
+        nums[..N].copy_from_slice(&values);
+        Answer { reply, nums, count: N, written: Vec::new() }
+    }
+
+    /// A written result against its room, which is looked at last.
+    fn of_written(room: u64, got: Wanted<Vec<u8>>) -> Answer {
+        let got = got.and_then(|r| if r.len() as u64 > room { Err(Reply::Room) } else { Ok(r) });
+        let answer = Answer::new(got.as_ref().map(|r| [r.len() as u64]).map_err(|&reply| reply));
+        Answer { written: got.unwrap_or_default(), ..answer }
+    }
+
+    /// The numbers behind the reply, in the protocol's order.
+    pub fn numbers(&self) -> &[u64] {
+        &self.nums[..self.count]
+    }
+
+    /// Appends the answer as text.
+    fn put(mut self, asked: &Asked<'_>, out: &mut Vec<u8>) {
+        put_number(out, self.reply as u64);
+        for n in self.numbers() {
+            out.push(b' ');
+            put_number(out, *n);
+        }
+        if asked.word.writes() {
+            self.written.resize(asked.nums[1] as usize, FILL);
+            out.push(b' ');
+            put_hex(out, &self.written);
+        }
+    }
+}
+
 impl<S: Paths + Copy> Answerer<S> {
     /// As `answer`, but an unlisted difference is only counted.
     pub fn answer(&mut self, line: &[u8], out: &mut Vec<u8>) {
         let line = line.strip_suffix(b"\n").unwrap_or(line);
-        if !self.req.read(line) {
-            out.extend_from_slice(b"?\n");
-            return;
-        }
-        let (req, list, tally) = (&self.req, &mut self.list, &mut self.tally);
-        let mut call = Call { source: self.source, req, list, tally, line };
-        match call.req.word {
-            Word::Prefix => numbers(out, call.prefix()),
-            Word::Front => call.put_step(out, Dir::Front),
-            Word::Back => call.put_step(out, Dir::Back),
-            Word::Join | Word::SetName | Word::SetExtension | Word::Absolute => {
-                let room = call.req.nums[1] as usize;
-                put_written(out, room, call.written());
-            }
-            Word::Root | Word::IsAbsolute | Word::Compare | Word::Starts | Word::Ends => {
-                numbers(out, call.verdict().map(|v| [v]));
-            }
-            _ => numbers(out, call.view().map(|e| [e.start as u64, e.len as u64])),
+        if self.req.read(line) {
+            let (source, asked) = (self.source, &self.req.asked());
+            let call = Call { source, asked, list: &mut self.list, tally: &mut self.tally };
+            call.answer().put(asked, out);
+        } else {
+            out.push(b'?');
         }
         out.push(b'\n');
     }
-}
 
-/// The reply and the numbers behind it, zeros where it is a refusal.
-fn numbers<const N: usize>(out: &mut Vec<u8>, got: Wanted<[u64; N]>) {
-    let (reply, values) = match got {
-        Ok(values) => (Reply::Done, values),
-        Err(reply) => (reply, [0; N]),
-    };
-    put_number(out, reply as u64);
-    for v in values {
-        out.push(b' ');
-        put_number(out, v);
+    /// The answer to a call, which no text limits: any room, paths of any length.
+    pub fn reply(&mut self, asked: &Asked<'_>) -> Answer {
+        Call { source: self.source, asked, list: &mut self.list, tally: &mut self.tally }.answer()
     }
-}
-
-/// A written result against its room, which is looked at last.
-fn put_written(out: &mut Vec<u8>, room: usize, got: Wanted<Vec<u8>>) {
-    let got = got.and_then(|r| if r.len() > room { Err(Reply::Room) } else { Ok(r) });
-    numbers(out, got.as_ref().map(|r| [r.len() as u64]).map_err(|&reply| reply));
-    let mut buffer = got.unwrap_or_default();
-    buffer.resize(room, FILL);
-    out.push(b' ');
-    put_hex(out, &buffer);
 }
 
 /// One request while it is answered.
 struct Call<'a, S> {
     source: S,
-    req: &'a Request,
+    asked: &'a Asked<'a>,
     list: &'a mut Vec<Part>,
     tally: &'a mut Tally,
-    line: &'a [u8],
 }
 
 impl<'a, S: Paths> Call<'a, S> {
+    fn answer(mut self) -> Answer {
+        match self.asked.word {
+            Word::Prefix => Answer::new(self.prefix()),
+            Word::Front => self.answer_step(Dir::Front),
+            Word::Back => self.answer_step(Dir::Back),
+            word if word.writes() => Answer::of_written(self.asked.nums[1], self.written()),
+            Word::Root | Word::IsAbsolute | Word::Compare | Word::Starts | Word::Ends => {
+                Answer::new(self.verdict().map(|v| [v]))
+            }
+            _ => Answer::new(self.view().map(|e| [e.start as u64, e.len as u64])),
+        }
+    }
+
     fn p(&self) -> &'a [u8] {
-        &self.req.bytes[0]
+        self.asked.bytes[0]
     }
     fn q(&self) -> &'a [u8] {
-        &self.req.bytes[1]
+        self.asked.bytes[1]
     }
 
     /// The mode, or reply 1 or 2.
     fn checked(&self) -> Wanted<Mode> {
-        let mode = match self.req.nums[0] {
+        let mode = match self.asked.nums[0] {
             0 => Mode::Unix,
-            1 if self.req.word != Word::Absolute => Mode::Windows,
+            1 if self.asked.word != Word::Absolute => Mode::Windows,
             _ => return Err(Reply::Mode),
         };
-        if self.req.bytes.iter().any(|b| b.len() > LONGEST_PATH) {
+        if self.asked.bytes.iter().any(|b| b.len() > LONGEST_PATH) {
             return Err(Reply::Length);
         }
         Ok(mode)
@@ -135,7 +169,7 @@ impl<'a, S: Paths> Call<'a, S> {
     fn cursor(&mut self) -> Wanted<(Mode, usize, usize)> {
         let m = self.checked()?;
         self.source.list_into(m, self.p(), self.list);
-        let [_, f, b] = self.req.nums;
+        let [_, f, b] = self.asked.nums;
         if u128::from(f) + u128::from(b) > self.list.len() as u128 {
             return Err(Reply::Cursor);
         }
@@ -157,33 +191,33 @@ impl<'a, S: Paths> Call<'a, S> {
         for (i, name) in x.names.iter().enumerate() {
             let Some(place) = name else { continue };
             let e = place.unwrap_or_else(|| {
-                self.tally.touch(Listed::ShareOutside, self.line);
+                self.tally.touch(Listed::ShareOutside, self.asked);
                 Ext::new(self.p().len(), 0)
             });
             n[2 + 2 * i] = e.start as u64;
             n[3 + 2 * i] = e.len as u64;
         }
         if self.p().starts_with(b"\\\\?\\UNC/") {
-            self.tally.touch(Listed::UncSlash, self.line);
+            self.tally.touch(Listed::UncSlash, self.asked);
         }
         n
     }
 
     // ------------------------------------------------------------ steps and the rest
 
-    fn put_step(&mut self, out: &mut Vec<u8>, d: Dir) {
-        let [m, f, b] = self.req.nums;
+    /// A step, and the cursor handed back behind it.
+    fn answer_step(&mut self, d: Dir) -> Answer {
+        let [m, f, b] = self.asked.nums;
         let got = self.step(d);
         let cursor = match (got.is_ok(), d) {
             (true, Dir::Front) => [m, f + 1, b],
             (true, Dir::Back) => [m, f, b + 1],
             (false, _) => [m, f, b],
         };
-        numbers(out, got);
-        for n in cursor {
-            out.push(b' ');
-            put_number(out, n);
-        }
+        let mut answer = Answer::new(got);
+        answer.nums[answer.count..].copy_from_slice(&cursor);
+        answer.count += cursor.len();
+        answer
     }
 
     fn step(&mut self, d: Dir) -> Wanted<[u64; 9]> {
@@ -212,11 +246,11 @@ impl<'a, S: Paths> Call<'a, S> {
     fn judge_step(&mut self, m: Mode, real: Option<Part>, want: Option<Part>) {
         let disk = (PREFIX, Ext::new(0, 2));
         let with_dot = (PREFIX, Ext::new(0, 3));
-        let dot = self.req.word == Word::Back && m == Mode::Windows && self.p().get(2) == Some(&b'.');
+        let dot = self.asked.word == Word::Back && m == Mode::Windows && self.p().get(2) == Some(&b'.');
         if want == Some(disk) && real == Some(with_dot) && dot {
-            self.tally.touch(Listed::PrefixFromBack, self.line);
+            self.tally.touch(Listed::PrefixFromBack, self.asked);
         } else {
-            self.tally.unlisted(self.line, format!("step {real:?}, list {want:?}"));
+            self.tally.unlisted(self.asked, format!("step {real:?}, list {want:?}"));
         }
     }
 
@@ -228,11 +262,11 @@ impl<'a, S: Paths> Call<'a, S> {
             let all_taken = f + b == self.list.len();
             let prefix_at_back = all_taken && f == 0 && self.list.first().is_some_and(|c| c.0 == PREFIX);
             if prefix_at_back && real.start == 0 {
-                self.tally.touch(Listed::BackTookPrefix, self.line);
+                self.tally.touch(Listed::BackTookPrefix, self.asked);
             } else if all_taken && f > 0 && real.len == 0 && rule.len == 0 {
-                self.tally.touch(Listed::EmptyRest, self.line);
+                self.tally.touch(Listed::EmptyRest, self.asked);
             } else {
-                self.tally.unlisted(self.line, format!("as_path {real:?}, rule {rule:?}"));
+                self.tally.unlisted(self.asked, format!("as_path {real:?}, rule {rule:?}"));
             }
         }
         Ok(rule)
@@ -246,9 +280,9 @@ impl<'a, S: Paths> Call<'a, S> {
         let rule = paper::rest(m, self.p(), self.list, taken, 0);
         if real != rule {
             if taken == self.list.len() && real.len == 0 && rule.len == 0 {
-                self.tally.touch(Listed::EmptyStrip, self.line);
+                self.tally.touch(Listed::EmptyStrip, self.asked);
             } else {
-                self.tally.unlisted(self.line, format!("strip_prefix {real:?}, rule {rule:?}"));
+                self.tally.unlisted(self.asked, format!("strip_prefix {real:?}, rule {rule:?}"));
             }
         }
         Some(rule)
@@ -257,17 +291,17 @@ impl<'a, S: Paths> Call<'a, S> {
     // ------------------------------------------------------------ views, verdicts, results
 
     fn view(&mut self) -> Wanted<Ext> {
-        if self.req.word == Word::Rest {
+        if self.asked.word == Word::Rest {
             return self.rest();
         }
         let m = self.checked()?;
         let p = self.p();
-        let got = match self.req.word {
+        let got = match self.asked.word {
             Word::Parent => self.source.parent(m, p),
             Word::Name => self.source.file_name(m, p),
             Word::Stem => self.source.file_stem(m, p),
             Word::Extension => self.source.extension(m, p),
-            Word::Ancestor => self.source.ancestor(m, p, self.req.nums[1]),
+            Word::Ancestor => self.source.ancestor(m, p, self.asked.nums[1]),
             Word::Strip => self.strip(m),
             other => unreachable!("{other:?} is no view"),
         };
@@ -277,7 +311,7 @@ impl<'a, S: Paths> Call<'a, S> {
     fn verdict(&mut self) -> Wanted<u64> {
         let m = self.checked()?;
         let (p, q) = (self.p(), self.q());
-        Ok(match self.req.word {
+        Ok(match self.asked.word {
             Word::Root => u64::from(self.source.has_root(m, p)),
             Word::IsAbsolute => u64::from(self.source.is_absolute(m, p)),
             Word::Starts => u64::from(self.source.starts_with(m, p, q)),
@@ -294,13 +328,13 @@ impl<'a, S: Paths> Call<'a, S> {
     fn written(&mut self) -> Wanted<Vec<u8>> {
         let m = self.checked()?;
         let (p, q) = (self.p(), self.q());
-        match self.req.word {
+        match self.asked.word {
             Word::Join => Ok(self.source.join(m, p, q)),
             Word::SetName => Ok(self.source.set_file_name(m, p, q)),
             Word::SetExtension => {
                 if q.iter().any(|&c| m.is_sep(c)) {
                     // asked first, because the Rust would panic
-                    self.tally.touch(Listed::ExtensionPanic, self.line);
+                    self.tally.touch(Listed::ExtensionPanic, self.asked);
                     return Err(Reply::Name);
                 }
                 self.source.set_plain_extension(m, p, q).ok_or(Reply::Absent)

@@ -1,10 +1,15 @@
 //! Where generated requests go: counted, thinned to one part of N, written as
 //! lines, and handed to whoever asked for them.
 
-use crate::words::{put_hex, put_number};
+use crate::words::Asked;
+
+enum To<'a> {
+    Lines(&'a mut dyn FnMut(&[u8])),
+    Calls(&'a mut dyn FnMut(&Asked<'_>)),
+}
 
 pub struct Sink<'a> {
-    to: &'a mut dyn FnMut(&[u8]),
+    to: To<'a>,
     line: Vec<u8>,
     part: u64,
     of: u64,
@@ -14,7 +19,12 @@ pub struct Sink<'a> {
 impl<'a> Sink<'a> {
     /// Hands every `of`-th line on, starting with number `part`, from 0.
     pub fn new(part: u64, of: u64, to: &'a mut dyn FnMut(&[u8])) -> Sink<'a> {
-        Sink { to, line: Vec::new(), part, of, at: 0 }
+        Sink { to: To::Lines(to), line: Vec::new(), part, of, at: 0 }
+    }
+
+    /// The same requests as calls, with no text between; a line that need not be a request is left out.
+    pub fn calls(part: u64, of: u64, to: &'a mut dyn FnMut(&Asked<'_>)) -> Sink<'a> {
+        Sink { to: To::Calls(to), line: Vec::new(), part, of, at: 0 }
     }
 
     fn wanted(&mut self) -> bool {
@@ -23,32 +33,30 @@ impl<'a> Sink<'a> {
         now % self.of == self.part
     }
 
-    /// One request, with its byte 10.
+    /// One request.
     pub fn ask(&mut self, word: &str, nums: &[u64], paths: &[&[u8]]) {
         if !self.wanted() {
             return;
         }
-        self.line.clear();
-        self.line.extend_from_slice(word.as_bytes());
-        for &n in nums {
-            self.line.push(b' ');
-            put_number(&mut self.line, n);
+        let asked = Asked::new(word, nums, paths);
+        match &mut self.to {
+            To::Calls(to) => to(&asked),
+            To::Lines(to) => {
+                self.line.clear();
+                asked.put_line(&mut self.line);
+                self.line.push(b'\n');
+                to(&self.line);
+            }
         }
-        for p in paths {
-            self.line.push(b' ');
-            put_hex(&mut self.line, p);
-        }
-        self.line.push(b'\n');
-        (self.to)(&self.line);
     }
 
     /// Any line at all; its byte 10 is added.
     pub fn raw(&mut self, line: &[u8]) {
-        if self.wanted() {
+        if let (true, To::Lines(to)) = (self.wanted(), &mut self.to) {
             self.line.clear();
             self.line.extend_from_slice(line);
             self.line.push(b'\n');
-            (self.to)(&self.line);
+            to(&self.line);
         }
     }
 }

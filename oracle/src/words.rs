@@ -29,6 +29,13 @@ pub enum Word {
     Absolute,
 }
 
+impl Word {
+    /// Whether the call writes into a buffer.
+    pub fn writes(self) -> bool {
+        matches!(self, Word::Join | Word::SetName | Word::SetExtension | Word::Absolute)
+    }
+}
+
 #[derive(Clone, Copy, PartialEq, Eq, Debug)]
 pub enum Slot {
     Number,
@@ -68,6 +75,65 @@ pub const REQUESTS: [Entry; 19] = [
     ("absolute", Word::Absolute, WRITE),
 ];
 
+/// What is asked, with its numbers and paths: a request that need not be text.
+#[derive(Clone, Copy, Debug)]
+pub struct Asked<'a> {
+    pub word: Word,
+    /// the mode, then F and B, or N, or ROOM; zeros behind them
+    pub nums: [u64; 3],
+    /// P, then Q, E or D; empty where the request has none
+    pub bytes: [&'a [u8]; 2],
+}
+
+impl<'a> Asked<'a> {
+    /// With the word as written, and as many numbers and paths as it has.
+    pub fn new(word: &str, nums: &[u64], paths: &[&'a [u8]]) -> Asked<'a> {
+        let word = entry(word.as_bytes()).expect("a known word").1;
+        let mut asked = Asked { word, nums: [0; 3], bytes: [b""; 2] };
+        asked.nums[..nums.len()].copy_from_slice(nums);
+        asked.bytes[..paths.len()].copy_from_slice(paths);
+        asked
+    }
+
+    fn entry(&self) -> &'static Entry {
+        REQUESTS.iter().find(|r| r.1 == self.word).expect("every word is listed")
+    }
+
+    /// How long the line is that `put_line` appends.
+    pub fn size(&self) -> usize {
+        let (name, _, slots) = self.entry();
+        let paths = slots.iter().filter(|s| **s == Bytes).count();
+        let digits = |n: &u64| n.checked_ilog10().unwrap_or(0) as usize + 1;
+        let numbers: usize = self.nums[..slots.len() - paths].iter().map(digits).sum();
+        let hex: usize = self.bytes[..paths].iter().map(|b| (2 * b.len()).max(1)).sum();
+        name.len() + slots.len() + numbers + hex
+    }
+
+    /// Appends the request as a line, without its byte 10.
+    pub fn put_line(&self, out: &mut Vec<u8>) {
+        let (name, _, slots) = self.entry();
+        out.extend_from_slice(name.as_bytes());
+        let (mut nums, mut paths) = (self.nums.iter(), self.bytes.iter());
+        for slot in *slots {
+            out.push(b' ');
+            match slot {
+                Bytes => put_hex(out, paths.next().expect("two paths at most")),
+                _ => put_number(out, *nums.next().expect("three numbers at most")),
+            }
+        }
+    }
+
+    pub fn line(&self) -> Vec<u8> {
+        let mut line = Vec::new();
+        self.put_line(&mut line);
+        line
+    }
+}
+
+fn entry(word: &[u8]) -> Option<&'static Entry> {
+    REQUESTS.iter().find(|r| r.0.as_bytes() == word)
+}
+
 /// A request as read. The buffers are used again for the next line.
 #[derive(Clone, Debug)]
 pub struct Request {
@@ -87,6 +153,10 @@ impl Default for Request {
 }
 
 impl Request {
+    pub fn asked(&self) -> Asked<'_> {
+        Asked { word: self.word, nums: self.nums, bytes: [&self.bytes[0], &self.bytes[1]] }
+    }
+
     /// Reads a line that has lost its byte 10. False: it is no request.
     pub fn read(&mut self, line: &[u8]) -> bool {
         if line.len() > LONGEST_LINE {
@@ -94,9 +164,7 @@ impl Request {
         }
         let mut words = line.split(|&b| b == b' ');
         let first = words.next().unwrap_or(b"");
-        let Some((_, word, slots)) = REQUESTS.iter().find(|r| r.0.as_bytes() == first) else {
-            return false;
-        };
+        let Some((_, word, slots)) = entry(first) else { return false };
         self.word = *word;
         self.nums = [0; 3];
         let (mut n, mut b) = (0, 0);

@@ -1,12 +1,11 @@
 -- Worked examples of the views.
-use Prim.Native.Nat.{ℕ}
 use mathlib.Core.Path.{_≡_, refl}
-use mathlib.Core.List.{List, [], _∷_}
+use mathlib.Core.List.{[], _∷_}
 use Rattle.octets.specs.Class.{classOf, isLetter}
 use Rattle.octets.specs.Segment.{lead}
 use Rattle.octets.specs.declared.Seps.the-variants.{Unix, Windows}
 use Rattle.answers.specs.declared.Reply.the-variants.{Absent}
-use Rattle.answers.specs.Reply.{refusedView, seen}
+use Rattle.answers.specs.Reply.{seen}
 use Rattle.answers.specs.Outcome.{refuse, result, guard}
 use Rattle.prefixes.specs.Prefix.{turned, begins, capital, drive, prefixOf}
 use Rattle.parts.specs.Body.{sortBy, rest, from}

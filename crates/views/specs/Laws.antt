@@ -3,11 +3,11 @@ use Prim.Native.Nat.{ℕ, zero, suc, _+_, _-_, _*_, _^_, _<_, _≤_}
 use mir.Syntax.{w64}
 use mir.Val.{Fits}
 use native.Mathlib.Numerals.{add-one}
-use native.Mathlib.Nat.{add-zero, add-sub-cancel-left}
+use native.Mathlib.Nat.{add-sub-cancel-left}
 use native.Mathlib.Omega.{arith}
 use mathlib.Core.Path.{_≡_, refl, sym, ap, _∙_}
 use mathlib.Core.List.{List, [], _∷_, _++_, append-nil, append-assoc}
-use mathlib.Core.Bool.{Bool, true, false, not, cond, false≢true}
+use mathlib.Core.Bool.{Bool, true, false, cond, false≢true}
 use lib.ListN.{length, getD, take, drop, length-append, length-drop}
 use lib.Seq.{take-length, take-suc, getD-drop, length-take-le}
 use lib.Dec.{eqb, ltb}
@@ -24,9 +24,7 @@ use Rattle.prefixes.specs.declared.Prefix.the-variants.{Verbatim, VerbatimUnc, 
 use Rattle.prefixes.specs.declared.Parsed.{Parsed}
 use Rattle.prefixes.specs.declared.Parsed.the-variants.{Nothing, Is}
 use Rattle.prefixes.specs.Prefix.{prefixIn, endOfPrefix}
-use Rattle.parts.specs.declared.Component.{Component}
 use Rattle.parts.specs.declared.Element.{Element}
-use Rattle.parts.specs.declared.Item.{Item}
 use Rattle.parts.specs.declared.Item.the-variants.{Missing, Here}
 use Rattle.parts.specs.declared.Kind.{Kind}
 use Rattle.parts.specs.declared.Kind.the-variants.{Dot, DotDot, Name}
@@ -35,7 +33,7 @@ use Rattle.parts.specs.declared.Piece.{Piece}
 use Rattle.parts.specs.declared.Piece.the-variants.{Nothing as None, Found}
 use Rattle.parts.specs.Body.{componentOf, dots}
 use Rattle.parts.specs.Elements.{nthOf, nthBackOf, endOr}
-use Rattle.parts.specs.Steps.{lift, raised, within, LastAt}
+use Rattle.parts.specs.Steps.{lift, within, LastAt}
 use Rattle.parts.specs.Laws.{last-none, last-found, back-last, back-on, back-past, back-nth, back-inside}
 use Rattle.components.specs.declared.Dir.{Dir}
 use Rattle.components.specs.declared.Dir.the-variants.{Bare, Root, Implied, Dot as Lone}
@@ -101,7 +99,7 @@ climbs-past l n h = split (climbs l n) (λ t. absurd (omega (arith, climbs-few l
 
 -- ---- `climb`
 
-kind-leaves : (q : Kind) → leavesKind (componentOf q) ≡ true
+pub kind-leaves : (q : Kind) → leavesKind (componentOf q) ≡ true
 kind-leaves Dot = refl
 kind-leaves DotDot = refl
 kind-leaves Name = refl
@@ -133,17 +131,21 @@ pub climb-in : (sep : ℕ → Bool) (v : Bool) (s : List ℕ) (lo n : ℕ) (r : 
 climb-in sep v s lo n r e c g = (rw g at (c .is)) .1
 
 -- ---- `head_up`
-pub up-fixed : (d x : Dir) (n : ℕ) (r : View) → d ≡ x → refusedView Absent ≡ headUp x n → r ≡ refusedView Absent → r ≡ headUp d n
-up-fixed d x n r y f e = e ∙ f ∙ rw y
+pub up-fixed : (d x : Dir) (n : ℕ) (r : View) → d ≡ x → refuse Absent ≡ headUp x n → r ≡ refusedView Absent → r ≡ told refusedView (headUp d n)
+unfolding told
+up-fixed d x n r y f e = e ∙ rw (y, ← f)
 
 module _ (d : Dir) (n : ℕ) (y : d ≡ Lone) where
-  pub up-lone : n ≡ 1 → seen 0 0 ≡ headUp d n
+  pub up-lone : n ≡ 1 → seen 0 0 ≡ told refusedView (headUp d n)
+  unfolding told
   up-lone z = rw (y, z)
 
-  pub up-long : (n ≡ 1 → ⊥) → (r : View) → r ≡ refusedView Absent → r ≡ headUp d n
+  pub up-long : (n ≡ 1 → ⊥) → (r : View) → r ≡ refusedView Absent → r ≡ told refusedView (headUp d n)
+  unfolding told
   up-long z r e = e ∙ rw (y, ne-eqb n 1 z)
 
-head-short : (d : Dir) (n : ℕ) (s : List ℕ) → headUp d n .start + headUp d n .len ≤ length s
+head-short : (d : Dir) (n : ℕ) (s : List ℕ) → told refusedView (headUp d n) .start + told refusedView (headUp d n) .len ≤ length s
+unfolding told
 head-short Bare n s = omega arith
 head-short Root n s = omega arith
 head-short Implied n s = omega arith
@@ -173,16 +175,16 @@ unfolding dirOf
 dir-lone k s p i h = split (sepAt k s i) (λ e. absurd (false≢true (rw e at h))) (λ e. behind-lone k s p (rw e at h))
 
 -- where the last element of a list is none that leaves
-stays : (dot : Bool) (l : List Element) (n : ℕ) → leaves (nthBackOf l 0) ≡ false → told refusedView (upBy dot l (suc n)) ≡ refusedView Absent
-unfolding upBy told guard
+pub stays : (dot : Bool) (l : List Element) (n : ℕ) → leaves (nthBackOf l 0) ≡ false → upBy dot l (suc n) ≡ refuse Absent
+unfolding upBy guard
 stays dot l n e = rw (climbs-first l n e)
 
-lone-up : (dot : Bool) (e n : ℕ) → told refusedView (upBy dot (dirPart Lone e) (suc n)) ≡ headUp Lone (suc n)
-unfolding upBy told guard climbs cutOf nthBackOf nthOf
+lone-up : (dot : Bool) (e n : ℕ) → upBy dot (dirPart Lone e) (suc n) ≡ headUp Lone (suc n)
+unfolding upBy guard climbs cutOf nthBackOf nthOf
 lone-up dot e zero = split dot (λ f. rw f) (λ f. rw f)
 lone-up dot e (suc n) = rw (climbs-past (dirPart Lone e) (suc (suc n)) (omega arith), ne-eqb (suc (suc n)) 1 (λ z. omega arith))
 
-head-up-of : (dot : Bool) (p : Parsed) (d : Dir) (e n : ℕ) → (isLone d ≡ true → p ≡ Nothing) → told refusedView (upBy dot (prefixPart p e ++ dirPart d e) (suc n)) ≡ headUp d (suc n)
+head-up-of : (dot : Bool) (p : Parsed) (d : Dir) (e n : ℕ) → (isLone d ≡ true → p ≡ Nothing) → upBy dot (prefixPart p e ++ dirPart d e) (suc n) ≡ headUp d (suc n)
 unfolding nthBackOf nthOf
 head-up-of dot Nothing Bare e n f = stays dot [] n refl
 head-up-of dot (Is p) Bare e n f = stays dot (prefixPart (Is p) e) n refl
@@ -192,10 +194,9 @@ head-up-of dot Nothing Implied e n f = stays dot (dirPart Implied e) n refl
 head-up-of dot (Is p) Implied e n f = stays dot (prefixPart (Is p) e ++ dirPart Implied e) n refl
 head-up-of dot p Lone e n f = rw (f refl) (lone-up dot e n)
 
-head-alone : (k : Seps) (s : List ℕ) (h : Start) → OpenAt k s h → (dot : Bool) (m : ℕ) → 0 < m → told refusedView (upBy dot (headList h) m) ≡ headUp (h .dir) m
+pub head-alone : (k : Seps) (s : List ℕ) (h : Start) → OpenAt k s h → (dot : Bool) (n : ℕ) → upBy dot (headList h) (suc n) ≡ headUp (h .dir) (suc n)
 unfolding headList startOf
-head-alone k s h o dot zero w = absurd (omega arith)
-head-alone k s h o dot (suc n) w = head-up-of dot (h .prefix) (h .dir) (h .end) n (rw (o .is) (dir-lone k s (prefixIn k s) (endOfPrefix (prefixIn k s))))
+head-alone k s h o dot n = head-up-of dot (h .prefix) (h .dir) (h .end) n (rw (o .is) (dir-lone k s (prefixIn k s) (endOfPrefix (prefixIn k s))))
 
 -- ---- `head_end`
 
@@ -212,7 +213,7 @@ head-last (Is p) Implied = refl
 head-last (Is p) Lone = refl
 
 -- a dot behind a drive: the prefix stands alone in the head
-drive-alone : (k : Seps) (s : List ℕ) (p : Parsed) (d : Dir) (e : ℕ) → cond (onDisk p) (cond (isBare d) (dotAt k s e) false) false ≡ true → (length (prefixPart p e ++ dirPart d e) ≡ 1) × (dirLen d ≡ 0) × (dotAt k s e ≡ true)
+pub drive-alone : (k : Seps) (s : List ℕ) (p : Parsed) (d : Dir) (e : ℕ) → cond (onDisk p) (cond (isBare d) (dotAt k s e) false) false ≡ true → (length (prefixPart p e ++ dirPart d e) ≡ 1) × (dirLen d ≡ 0) × (dotAt k s e ≡ true)
 drive-alone k s Nothing d e h = absurd (false≢true h)
 drive-alone k s (Is p) Bare e h = split (isDisk p) (λ t. (refl, refl, rw t at h)) (λ t. absurd (false≢true (rw t at h)))
 drive-alone k s (Is p) Root e h = split (isDisk p) (λ t. absurd (false≢true (rw t at h))) (λ t. absurd (false≢true (rw t at h)))
@@ -223,15 +224,15 @@ dot-inside : (k : Seps) (s : List ℕ) (i : ℕ) → dotAt k s i ≡ true → i 
 dot-inside k s i h = split (ltb i (length s)) (λ e. ltb-true i (length s) e) (λ e. absurd (false≢true (dot-past k s i (ltb-false i (length s) e) ∙ h)))
 
 module _ (k : Seps) (s : List ℕ) (h : Start) (o : OpenAt k s h) where
-  ends-at : endOr (nthBackOf (headList h) 0) ≡ h .at
+  pub ends-at : endOr (nthBackOf (headList h) 0) ≡ h .at
   unfolding headList startOf
   ends-at = rw (o .is) (head-last (prefixIn k s) (dirOf k (prefixIn k s) s (endOfPrefix (prefixIn k s))))
 
-  alone : dotted h s ≡ true → length (headList h) ≡ 1
+  pub alone : dotted h s ≡ true → length (headList h) ≡ 1
   unfolding headList dotted
   alone y = drive-alone (h .seps) s (h .prefix) (h .dir) (h .end) y .0
 
-  dot-in : dotted h s ≡ true → h .at + 1 ≤ length s
+  pub dot-in : dotted h s ≡ true → h .at + 1 ≤ length s
   unfolding dotted startOf
   dot-in y =
       let a = drive-alone (h .seps) s (h .prefix) (h .dir) (h .end) y in
@@ -250,6 +251,23 @@ module _ (k : Seps) (s : List ℕ) (h : Start) (o : OpenAt k s h) where
     unfolding cutOf
     head-plain n = record { is = rw (ends-at, ← e, n) (omega arith); inside = o .high }
 
+  -- a list whose body ends in p: the head comes before it, and a dot behind a drive does not count
+  module _ (e : ℕ) (w : List Element) (p : Element) (t : within (isSep (h .seps)) (dots (h .seps)) s (h .at) e ≡ w ++ (p ∷ [])) where
+    pub parted : leftOf h s e ≡ (headList h ++ w) ++ (p ∷ [])
+    unfolding leftOf
+    parted = rw (t, append-assoc)
+
+    later : dotted h s ≡ true → (length (leftOf h s e) ≡ 0 + 1 → ⊥)
+    later y = λ z. omega (arith, alone y, ap length parted, length-append (headList h ++ w) (p ∷ []), length-append (headList h) w)
+
+    pub cut-last : cutOf (dotted h s) (leftOf h s e) 0 ≡ p .start + p .len
+    unfolding cutOf
+    cut-last =
+        rw (back-last (leftOf h s e) (headList h ++ w) p parted)
+        (split (dotted h s)
+        (λ y. rw (y, ne-eqb (length (leftOf h s e)) (0 + 1) (later y)) (omega arith))
+        (λ y. rw y (omega arith)))
+
   -- `end_before`
   module _ (e : ℕ) (p : Piece) (f : LastAt (isSep (h .seps)) (dots (h .seps)) s (h .at) e p) where
     pub before-none : p ≡ None → (r : ℕ) → CutAt (dotted h s) (headList h) s r → CutAt (dotted h s) (leftOf h s e) s r
@@ -260,39 +278,15 @@ module _ (k : Seps) (s : List ℕ) (h : Start) (o : OpenAt k s h) where
       pub before-fits : Fits w64 (q .start + q .len)
       before-fits = let t = last-found f g in record { fits = omega arith }
 
-      before : List Element
-      before = headList h ++ within (isSep (h .seps)) (dots (h .seps)) s (h .at) (q .start)
-
-      parted : leftOf h s e ≡ before ++ (lift q ∷ [])
-      unfolding leftOf before
-      parted = rw (last-found f g .is, append-assoc)
-
-      later : dotted h s ≡ true → (length (leftOf h s e) ≡ 0 + 1 → ⊥)
-      unfolding before
-      later y =
-          let n : length (leftOf h s e) ≡ length before + 1 = ap length parted ∙ length-append before (lift q ∷ []) in
-          let m = length-append (headList h) (within (isSep (h .seps)) (dots (h .seps)) s (h .at) (q .start)) in
-          λ z. omega (arith, alone y)
-
       pub before-part : CutAt (dotted h s) (leftOf h s e) s (q .start + q .len)
-      unfolding cutOf
-      before-part =
-          let t = last-found f g in
-          record {
-            is =
-                rw (back-last (leftOf h s e) before (lift q) parted)
-                (split (dotted h s)
-                (λ y. rw (y, ne-eqb (length (leftOf h s e)) (0 + 1) (later y)) (omega arith))
-                (λ y. rw y (omega arith)));
-            inside = omega arith;
-          }
+      before-part = let t = last-found f g in record { is = sym (cut-last e (within (isSep (h .seps)) (dots (h .seps)) s (h .at) (q .start)) (lift q) (t .is)); inside = omega arith }
 
   -- ---- `up`
-  whole-left : listOf k s ≡ leftOf h s (length s)
+  pub whole-left : listOf k s ≡ leftOf h s (length s)
   unfolding wholeOf bodyList leftOf within
   whole-left = sym (whole-list k s h o) ∙ rw (take-length s)
 
-  dot-same : dotted (startOf k s) s ≡ dotted h s
+  pub dot-same : dotted (startOf k s) s ≡ dotted h s
   dot-same = rw (o .is)
 
   up-from : (n e m : ℕ) → Steps (within (isSep (h .seps)) (dots (h .seps)) s (h .at) (length s)) n (within (isSep (h .seps)) (dots (h .seps)) s (h .at) e) m → upBy (dotted (startOf k s) s) (listOf k s) n ≡ upBy (dotted h s) (leftOf h s e) m
@@ -310,11 +304,13 @@ module _ (k : Seps) (s : List ℕ) (h : Start) (o : OpenAt k s h) where
         let m = rw g at (a .is) in
         record { is = rw (t .is) (sym (ap (told refusedView) (up-from n e 0 (m .0)))); inside = omega (arith, t .inside) }
 
-    pub up-head : (m : ℕ) (r : View) → c ≡ Head m → r ≡ headUp (h .dir) m → ViewAt (upBy (dotted (startOf k s) s) (listOf k s) n) s r
+    pub up-head : (m : ℕ) (r : View) → c ≡ Head m → r ≡ told refusedView (headUp (h .dir) m) → ViewAt (upBy (dotted (startOf k s) s) (listOf k s) n) s r
     up-head m r g e =
         let t = rw g at (a .is) in
+        let y : m ≡ suc (m - 1) = omega (arith, t .1) in
+        let u : upBy (dotted h s) (headList h) m ≡ headUp (h .dir) m = rw y (head-alone k s h o (dotted h s) (m - 1)) in
         record {
-          is = e ∙ sym (ap (told refusedView) (up-head-from n m (t .0)) ∙ head-alone k s h o (dotted h s) m (t .1));
+          is = e ∙ sym (ap (told refusedView) (up-head-from n m (t .0) ∙ u));
           inside = rw e (head-short (h .dir) m s);
         }
 
@@ -345,7 +341,7 @@ module _ (l : List Element) (b : ℕ) where
       rw (t, ne-eqb (length l) (b + 1) (λ z. n (sym z))) (plain-rest 0 refl))
 
   -- n steps back, told either way
-  up-rest : (dot : Bool) → upBy dot l b ≡ present (climbs l b) (result (viewOf (restOf dot l 0 b)))
+  pub up-rest : (dot : Bool) → upBy dot l b ≡ present (climbs l b) (result (viewOf (restOf dot l 0 b)))
   unfolding upBy
   up-rest dot = rw (cut-rest dot)
 
@@ -392,7 +388,7 @@ module _ (k : Seps) (s : List ℕ) (h : Start) (o : OpenAt k s h) (p : Piece) (f
 
   module _ (q : Part) (g : p ≡ Found q) (b : Bool) (n : b ≡ isName (q .kind)) where
     the-last : nthBackOf (listOf k s) 0 ≡ Here (lift q)
-    the-last = rw (whole-left k s h o) (back-last (leftOf h s (length s)) (before k s h o (length s) p f q g) (lift q) (parted k s h o (length s) p f q g))
+    the-last = rw (whole-left k s h o) (back-last (leftOf h s (length s)) (headList h ++ within (isSep (h .seps)) (dots (h .seps)) s (h .at) (q .start)) (lift q) (parted k s h o (length s) (within (isSep (h .seps)) (dots (h .seps)) s (h .at) (q .start)) (lift q) (last-found f g .is)))
 
     pub name-is : b ≡ true → NameAt k s (Found q)
     unfolding lastName

@@ -1,5 +1,5 @@
 -- What the leaves promise to their callers beside the equation, and what their loops keep. Nothing here has to be believed.
-use Prim.Native.Nat.{ℕ, _+_, _-_, _^_, _<_, _≤_}
+use Prim.Native.Nat.{ℕ, _+_, _-_, _<_, _≤_}
 use mathlib.Core.Path.{_≡_}
 use mathlib.Core.List.{List, [], _++_}
 use mathlib.Core.Bool.{Bool, true, false, cond}
@@ -10,7 +10,7 @@ use Rattle.octets.specs.declared.Seps.{Seps}
 use Rattle.answers.specs.declared.Reply.the-variants.{Absent}
 use Rattle.answers.specs.declared.View.{View}
 use Rattle.answers.specs.Reply.{refusedView, seen}
-use Rattle.answers.specs.Outcome.{Outcome, result, told, present}
+use Rattle.answers.specs.Outcome.{Outcome, refuse, result, told, present}
 use Rattle.parts.specs.declared.Element.{Element}
 use Rattle.parts.specs.declared.Kind.{Kind}
 use Rattle.parts.specs.declared.Kind.the-variants.{Dot, DotDot, Name}
@@ -59,11 +59,11 @@ pub record ClimbAt (sep : ℕ → Bool) (v : Bool) (s : List ℕ) (lo n : ℕ) (
   pub is : Climbed sep v s lo n r
 
 -- what remains of a head alone after n steps back, n not 0
-abbrev pub headUp : Dir → ℕ → View
-headUp Bare n = refusedView Absent
-headUp Root n = refusedView Absent
-headUp Implied n = refusedView Absent
-headUp Lone n = cond (eqb n 1) (seen 0 0) (refusedView Absent)
+abbrev pub headUp : Dir → ℕ → Outcome View
+headUp Bare n = refuse Absent
+headUp Root n = refuse Absent
+headUp Implied n = refuse Absent
+headUp Lone n = cond (eqb n 1) (result (seen 0 0)) (refuse Absent)
 
 abbrev pub isName : Kind → Bool
 isName Dot = false

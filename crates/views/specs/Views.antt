@@ -44,7 +44,7 @@ unfoldable pub parentOf : Seps → List ℕ → Outcome View
 parentOf k s = present (leaves (nthBackOf (listOf k s) 0)) (result (restBack k s 1))
 
 -- "Ancestors, asked by a number: 0 is the path itself untrimmed, each next one the parent of the one before, Absent once
--- there is none.": that each is the parent of the one before is `next-parent` of Laws.antt
+-- there is none.": here by the list; the sentence itself, over the path's bytes, is `next-one` of Ancestors.antt
 unfoldable pub ancestorOf : ℕ → Seps → List ℕ → Outcome View
 ancestorOf n k s = cond (eqb n 0) (result (seen 0 (length s))) (present (climbs (listOf k s) n) (result (restBack k s n)))
 
@@ -65,11 +65,12 @@ named (Here p) = cond (isNormal (p .component)) (Here p) Missing
 unfoldable pub lastName : Seps → List ℕ → Item
 lastName k s = named (nthBackOf (listOf k s) 0)
 
--- the place of the last dot of w, and 0 if there is none
+-- w has a dot
 unfoldable pub hasDot : List ℕ → Bool
 hasDot [] = false
 hasDot (x ∷ w) = cond (eqb x 46) true (hasDot w)
 
+-- the place of the last dot of w, and 0 if there is none
 unfoldable pub lastDot : List ℕ → ℕ
 lastDot [] = 0
 lastDot (x ∷ w) = cond (hasDot w) (suc (lastDot w)) 0

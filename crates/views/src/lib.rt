@@ -6,12 +6,13 @@ use components::Dir;
 use components::Start;
 use octets::Seps;
 use parts::Kind;
-use parts::Part;
 use parts::Piece;
 ghost use mathlib.Core.Path.{_≡_};
-ghost use Prim.Native.Nat.{ℕ, _≤_};
+ghost use Prim.Native.Nat.{_≤_};
 ghost use lib.ListN.{length};
 ghost use Rattle.octets.specs.Class.{isSep};
+ghost use Rattle.answers.specs.Outcome.{told};
+ghost use Rattle.answers.specs.Reply.{refusedView};
 ghost use Rattle.parts.specs.Body.{dots};
 ghost use Rattle.components.specs.List.{startOf, headList, listOf};
 ghost use Rattle.cursors.specs.Rest.{dotted};
@@ -74,7 +75,7 @@ fn climb(k: Seps, s: &[u8], at: usize, n: usize) -> Reached
 
 // What remains of a head alone after steps back: a lone dot can be taken, a prefix and a root cannot.
 fn head_up(d: Dir, left: usize) -> View
-    ensures { λ r. ⌜ r ≡ headUp d left ⌝ }
+    ensures { λ r. ⌜ r ≡ told refusedView (headUp d left) ⌝ }
 {
     match d {
         Dir::Bare => answers::refuse_view(Reply::Absent),

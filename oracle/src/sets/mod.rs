@@ -12,6 +12,7 @@ pub(crate) use edges::broken_lines;
 pub(crate) use pairs::each_test;
 pub(crate) use steps::each_mixture;
 pub(crate) use views::each_view;
+pub use writes::length as result_length;
 pub(crate) use writes::{length, rooms};
 
 use crate::Mode;

@@ -9,7 +9,7 @@ use crate::{Paths, Real};
 const WORDS: [&str; 3] = ["join", "set-name", "set-extension"];
 
 /// How long the result is; None where there is none at any room.
-pub(crate) fn length(word: &str, m: u64, p: &[u8], q: &[u8]) -> Option<u64> {
+pub fn length(word: &str, m: u64, p: &[u8], q: &[u8]) -> Option<u64> {
     let mode = mode(m);
     let result = match word {
         "join" => Some(Real.join(mode, p, q)),

@@ -1,0 +1,12 @@
+use borrow.Author.Needs.{needs}
+use Rattle.cab.specs.Laws.{numbers}
+use Rattle.cab.proofs.bridlestep_compare.Statement.{statement}
+use Rattle.cab.proofs.bridlestep_compare.Tie as tie
+
+pub bridlestep-compare-spec : {M : Type 1} → statement M
+bridlestep-compare-spec =
+    tie.close
+    (tie.spec
+    (λ c κs. search (needs, numbers))
+    (λ c κs. search (needs, numbers))
+    (λ c. search (needs, numbers)))

@@ -1,0 +1,12 @@
+use borrow.Author.Needs.{needs}
+use Rattle.cab.specs.Laws.{numbers}
+use Rattle.cab.proofs.bridlestep_next_back.Statement.{statement}
+use Rattle.cab.proofs.bridlestep_next_back.Tie as tie
+
+pub bridlestep-next-back-spec : {M : Type 1} → statement M
+bridlestep-next-back-spec =
+    tie.close
+    (tie.spec
+    (λ c κs. search (needs, numbers))
+    (λ c κs. search (needs, numbers))
+    (λ c. search (needs, numbers)))
