@@ -19,21 +19,7 @@ fn prefix(q: Request, p: &[u8], out: &mut [u8; SPACE], n: usize) -> usize
     requires { ⌜ n + 131584 ≤ 262144 ⌝ }
     ensures { λ r. ⌜ r ≤ n + 131584 ⌝ }
 {
-    let x = paths::prefix(q.mode, p);
-    let reply = x.reply;
-    let found = x.prefix;
-    let f = prefixes::figures_of(found);
-    let row = [
-        answers::number(reply),
-        f.kind,
-        f.letter,
-        f.start1,
-        f.len1,
-        f.start2,
-        f.len2,
-        x.len,
-    ];
-    protocol::put_row(out, n, &row, 10)
+    steps::put_prefix(paths::prefix(q.mode, p), out, n)
 }
 
 // The answer to a request with the paths p and other. One arm a request.
