@@ -4,3 +4,6 @@ pub mod Replies
 pub mod Values
 pub mod Joins
 pub mod Unique
+pub mod Rooms
+pub mod Calls
+pub mod Matches
