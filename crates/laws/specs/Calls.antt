@@ -3,8 +3,8 @@
 -- base can be stripped, joining what remains back gives the path's own component list."
 use Prim.Native.Nat.{ℕ, _≤_}
 use native.Mathlib.Omega.{arith}
-use mathlib.Core.Path.{_≡_, refl, sym, ap, _∙_}
-use mathlib.Core.Bool.{Bool, true, false, false≢true}
+use mathlib.Core.Path.{_≡_, sym, ap, _∙_}
+use mathlib.Core.Bool.{false, false≢true}
 use mathlib.Core.List.{List, [], _++_}
 use mathlib.Core.Logic.{_↔_}
 use lib.ListN.{length, take}
@@ -12,13 +12,12 @@ use borrow.Author.Tests.{ltb-false, le-ltb}
 use Rattle.octets.specs.Class.{limit, sepsOf}
 use Rattle.octets.specs.Laws.{split}
 use Rattle.octets.specs.declared.Seps.the-variants.{Unix}
-use Rattle.answers.specs.declared.Reply.the-variants.{Done, Mode, Length, Absent}
+use Rattle.answers.specs.declared.Reply.the-variants.{Done, Mode, Length}
 use Rattle.answers.specs.declared.View.{View}
 use Rattle.answers.specs.Reply.{refusedView}
-use Rattle.answers.specs.Outcome.{Outcome, result, told, guard}
+use Rattle.answers.specs.Outcome.{result, told, guard}
 use Rattle.answers.specs.Written.{Wrote}
-use Rattle.buffers.specs.Laws.{wrote-well}
-use Rattle.components.specs.List.{sepAt, dotAt, dirOf, startOf, hasRoot, isAbsolute}
+use Rattle.components.specs.List.{sepAt, dirOf, startOf, hasRoot, isAbsolute}
 use Rattle.order.specs.Values.{bytesAt, valuesOf}
 use Rattle.matches.specs.Match.{startsOf}
 use Rattle.matches.specs.Strip.{stripOf}

@@ -16,7 +16,7 @@ use Rattle.octets.specs.Laws.{split}
 use Rattle.octets.specs.declared.Seps.the-variants.{Unix}
 use Rattle.answers.specs.declared.Reply.the-variants.{Absent}
 use Rattle.answers.specs.declared.View.{View}
-use Rattle.answers.specs.Outcome.{Outcome, refuse, result, guard}
+use Rattle.answers.specs.Outcome.{refuse, result, guard}
 use Rattle.parts.specs.declared.Component.{Component}
 use Rattle.parts.specs.declared.Component.the-variants.{Prefix, RootDir, CurDir, ParentDir, Normal}
 use Rattle.parts.specs.declared.Element.{Element}

@@ -1,7 +1,7 @@
 -- What starts and ends by components mean: a list starts with another exactly where it is that one with a list behind it, and ends with it
 -- exactly where it is that one with a list before it.
 use mathlib.Core.Path.{_≡_, refl, sym, ap, _∙_}
-use mathlib.Core.Bool.{Bool, true, false, cond, false≢true}
+use mathlib.Core.Bool.{true, false≢true}
 use mathlib.Core.List.{List, [], _∷_, _++_, reverse, reverse-append, reverse-reverse}
 use mathlib.Core.Logic.{_↔_}
 use Prim.Native.Nat.{ℕ}

@@ -2,9 +2,9 @@
 -- longer than the buffer; a call answered Done has left its result's bytes.
 use Prim.Native.Nat.{ℕ, _<_, _≤_}
 use native.Mathlib.Omega.{arith}
-use mathlib.Core.Path.{_≡_, refl, sym, ap, _∙_}
-use mathlib.Core.Bool.{Bool, true, false, cond}
-use mathlib.Core.List.{List, _++_}
+use mathlib.Core.Path.{_≡_, sym, ap, _∙_}
+use mathlib.Core.Bool.{Bool, false}
+use mathlib.Core.List.{List}
 use mathlib.Core.Logic.{_↔_}
 use lib.ListN.{length, take, drop}
 use lib.Seq.{take-append-seam, drop-append-seam}
@@ -15,7 +15,7 @@ use Rattle.answers.specs.declared.Reply.{Reply}
 use Rattle.answers.specs.declared.Reply.the-variants.{Done, Room}
 use Rattle.answers.specs.declared.View.{View}
 use Rattle.answers.specs.Reply.{numberOf, refusedView, seen}
-use Rattle.answers.specs.Outcome.{Outcome, refuse, result, told, guard}
+use Rattle.answers.specs.Outcome.{Outcome, result, told, guard}
 use Rattle.answers.specs.Written.{over, answered, left, Wrote}
 
 -- the bytes w were left: they stand at the front of the buffer, the answer counts them, and every later byte is as before

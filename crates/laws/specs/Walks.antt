@@ -1,17 +1,16 @@
 -- Any mixture of front and back steps that empties a list gives its elements, each once: those taken at the front in their order,
 -- then those taken at the back in the other order, are the list.
-use Prim.Native.Nat.{ℕ, zero, suc, _+_, _-_, _<_, _≤_}
+use Prim.Native.Nat.{ℕ, zero, suc, _+_, _-_, _<_}
 use native.Mathlib.Omega.{arith}
 use native.Mathlib.Numerals.{add-one}
 use mathlib.Core.Path.{_≡_, refl, sym, ap, _∙_}
 use mathlib.Core.List.{List, [], _∷_, _++_, append-assoc, append-nil}
-use lib.ListN.{length, take, drop, length-append, length-drop, take-append-drop}
+use lib.ListN.{length, take, drop, take-append-drop}
 use lib.Seq.{drop-length}
 use Rattle.parts.specs.declared.Element.{Element}
-use Rattle.parts.specs.declared.Item.{Item}
-use Rattle.parts.specs.declared.Item.the-variants.{Missing, Here}
+use Rattle.parts.specs.declared.Item.the-variants.{Here}
 use Rattle.parts.specs.Elements.{nthOf, nthBackOf}
-use Rattle.parts.specs.Laws.{nth-behind, back-nth}
+use Rattle.parts.specs.Laws.{back-nth}
 use Rattle.answers.specs.Outcome.{told}
 use Rattle.paths.specs.declared.steps.Cursor.{Cursor}
 use Rattle.paths.specs.declared.steps.Taken.{Taken}
