@@ -3,7 +3,7 @@
 -- base can be stripped, joining what remains back gives the path's own component list."
 use Prim.Native.Nat.{ℕ, _≤_}
 use native.Mathlib.Omega.{arith}
-use mathlib.Core.Path.{_≡_, sym, ap, _∙_}
+use mathlib.Core.Path.{_≡_, refl, sym, ap, _∙_}
 use mathlib.Core.Bool.{false, false≢true}
 use mathlib.Core.List.{List, [], _++_}
 use mathlib.Core.Logic.{_↔_}
@@ -82,9 +82,9 @@ components p q x h e j = ap (valuesOf Unix) (joined-is p q x j) ∙ join-compone
 strip-passes : (s t : List ℕ) (v : View) → v ≡ told refusedView (stripCall 0 s t) → v .reply ≡ Done → v ≡ told refusedView (stripOf Unix s t)
 unfolding pairCall sepsOf
 strip-passes s t v e d =
-    let m = told-passes _ Mode _ v e (λ f. apart d f (λ z. omega arith)) in
-    let l = told-passes _ Length _ v (m .1) (λ f. apart d f (λ z. omega arith)) in
-    told-passes _ Length _ v (l .1) (λ f. apart d f (λ z. omega arith)) .1
+    let m = told-passes replyIn refusedView (λ r. refl) _ Mode _ v e (λ f. apart d f (λ z. omega arith)) in
+    let l = told-passes replyIn refusedView (λ r. refl) _ Length _ v (m .1) (λ f. apart d f (λ z. omega arith)) in
+    told-passes replyIn refusedView (λ r. refl) _ Length _ v (l .1) (λ f. apart d f (λ z. omega arith)) .1
 
 strip-result : (s t : List ℕ) (v : View) → v ≡ told refusedView (stripOf Unix s t) → v .reply ≡ Done → stripOf Unix s t ≡ result v
 unfolding stripOf guard told

@@ -7,3 +7,4 @@ pub mod Unique
 pub mod Rooms
 pub mod Calls
 pub mod Matches
+pub mod Given

@@ -1,22 +1,16 @@
--- Each reply is given exactly when document 01's table says. A call's tests stand in a list, in the order 1, 2, 8, 4, 5, 6, 3;
--- its reply is that of the first test that holds, and Done where none does (7, Room, is decided last, in `Rooms`).
-use Prim.Native.Nat.{ℕ, _+_}
-use mathlib.Core.Path.{_≡_, refl, sym, ap, _∙_}
+-- A list of tests, each with the reply that it gives: the reply of the first test that holds, and Done where none does. Given.antt has
+-- the tests of every call.
+use Prim.Native.Nat.{ℕ}
+use mathlib.Core.Path.{_≡_, refl, ap}
 use mathlib.Core.List.{List, [], _∷_, _++_}
-use mathlib.Core.Bool.{Bool, true, false, cond, not}
+use mathlib.Core.Bool.{Bool, true, false, cond}
+use mathlib.Core.Logic.{_↔_}
 use lib.ListN.{length}
-use lib.Dec.{ltb, leb, eqb}
-use borrow.Author.Tests.{le-leb, lt-leb}
-use Rattle.octets.specs.Class.{limit, sepsOf}
+use lib.Dec.{ltb}
+use Rattle.octets.specs.Class.{limit}
 use Rattle.octets.specs.Laws.{split}
 use Rattle.answers.specs.declared.Reply.{Reply}
-use Rattle.answers.specs.declared.Reply.the-variants.{Done, Mode, Length, Absent, Name, Empty, Base, Room, Cursor}
-use Rattle.answers.specs.Outcome.{Outcome, refuse, result, guard, inMode, short}
-
--- the reply of an outcome
-abbrev pub replyOf : {A : Type 0} → Outcome A → Reply
-replyOf (refuse r) = r
-replyOf (result a) = Done
+use Rattle.answers.specs.declared.Reply.the-variants.{Done, Mode, Length}
 
 -- a test, and the reply that it gives where it holds
 pub record Test : Type 0 where
@@ -60,6 +54,10 @@ pub data Why (l : List Test) (r : Reply) : Type 0 where
   by : (t : Test) → First l t → r ≡ t .reply → Why l r
   otherwise : None l → r ≡ Done → Why l r
 
+why-gives : (l : List Test) (r : Reply) → Why l r → firstOf l ≡ r
+why-gives l r (by t f e) = rw (f .is, e) (given-when (f .before) t (f .behind) (f .none) (f .holds))
+why-gives l r (otherwise n e) = rw e (done-when l n)
+
 why-more : (t : Test) (l : List Test) (r : Reply) → t .holds ≡ false → Why l r → Why (t ∷ l) r
 unfolding None
 why-more t l r h (by u f e) = by u (record { before = t ∷ f .before; behind = f .behind; is = ap (λ (m : List Test). t ∷ m) (f .is); none = (h, f .none); holds = f .holds }) e
@@ -81,14 +79,9 @@ only-when (t ∷ l) =
     (λ e. by t (record { before = []; behind = l; is = refl; none = tt; holds = e }) (first-yes t l e))
     (λ e. rw (first-no t l e) (why-more t l (firstOf l) e (only-when l)))
 
--- a guard in front of an outcome is a test in front of its tests
-pub guard-first : {A : Type 0} (b : Bool) (r : Reply) (o : Outcome A) (l : List Test) → replyOf o ≡ firstOf l → replyOf (guard b r o) ≡ firstOf (test b r ∷ l)
-unfolding guard firstOf
-guard-first b r o l e = split b (λ t. rw t) (λ t. rw t e)
-
-pub result-first : {A : Type 0} (a : A) → replyOf (result a) ≡ firstOf []
-unfolding firstOf
-result-first a = refl
+-- both at once: a chain gives a reply exactly so
+pub exactly-when : (l : List Test) (r : Reply) → (firstOf l ≡ r) ↔ Why l r
+exactly-when l r = (λ e. rw e at (only-when l), why-gives l r)
 
 -- the two tests of every call: 1 and 2
 abbrev pub mode : ℕ → Test

@@ -75,11 +75,11 @@ module _ (w : List ℕ) (a : View) (before after : List ℕ) (h : Wrote (result 
       }
 
 -- a call that was not answered with a guard's reply has passed it
-module _ (b : Bool) (k : Reply) where
-  pub wrote-passes : (o : Outcome (List ℕ)) (a : View) (before after : List ℕ) → Wrote (guard b k o) a before after → (a .reply ≡ k → ⊥) → (b ≡ false) × Wrote o a before after
-  unfolding guard answered
-  wrote-passes o a before after w n = split b (λ e. absurd (n (ap replyIn (rw e at (w .says))))) (λ e. (e, rw e at w))
+pub wrote-passes : (b : Bool) (k : Reply) (o : Outcome (List ℕ)) (a : View) (before after : List ℕ) → Wrote (guard b k o) a before after → (a .reply ≡ k → ⊥) → (b ≡ false) × Wrote o a before after
+unfolding guard answered
+wrote-passes b k o a before after w n = split b (λ e. absurd (n (ap replyIn (rw e at (w .says))))) (λ e. (e, rw e at w))
 
-  pub told-passes : (o : Outcome View) (a : View) → a ≡ told refusedView (guard b k o) → (a .reply ≡ k → ⊥) → (b ≡ false) × (a ≡ told refusedView o)
+module _ {A : Type 0} (reply : A → Reply) (f : Reply → A) (h : (r : Reply) → reply (f r) ≡ r) where
+  pub told-passes : (b : Bool) (k : Reply) (o : Outcome A) (a : A) → a ≡ told f (guard b k o) → (reply a ≡ k → ⊥) → (b ≡ false) × (a ≡ told f o)
   unfolding guard told
-  told-passes o a w n = split b (λ e. absurd (n (ap replyIn (rw e at w)))) (λ e. (e, rw e at w))
+  told-passes b k o a w n = split b (λ e. absurd (n (ap reply (rw e at w) ∙ h k))) (λ e. (e, rw e at w))
