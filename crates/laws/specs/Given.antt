@@ -1,7 +1,8 @@
 -- When each of the 19 public calls gives each reply. Document 01, "Replies", "Given exactly when": a call's tests in the order 1, 2, 8, 4, 5, 6, 3, 7; its
 -- reply is that of the first test that holds, and Done where none does.
 use Prim.Native.Nat.{ℕ, _+_}
-use mathlib.Core.Path.{_≡_, refl}
+use native.Mathlib.Omega.{arith}
+use mathlib.Core.Path.{_≡_, refl, sym, _∙_}
 use mathlib.Core.List.{List, [], _∷_}
 use mathlib.Core.Bool.{Bool, true, false, cond, not}
 use mathlib.Core.Logic.{_↔_}
@@ -41,7 +42,7 @@ use Rattle.paths.specs.Views.{viewCall, parentCall, ancestorCall, fileNameCall,
 use Rattle.paths.specs.Pairs.{pairCall, compareCall, startsCall, endsCall, stripCall}
 use Rattle.paths.specs.Writes.{joinCall, setNameCall, setExtensionCall}
 use Rattle.paths.specs.Absolute.{absoluteCall}
-use Rattle.laws.specs.Replies.{Test, test, firstOf, Why, exactly-when, mode, long}
+use Rattle.laws.specs.Replies.{Test, test, firstOf, None, Why, done-when, exactly-when, rising, done-none, mode, long}
 
 -- a call, by what it is given; one that writes is given the room of its buffer, last
 pub data Call : Type 0 where
@@ -140,6 +141,29 @@ testsOf (join m p q n) = mode m ∷ long p ∷ long q ∷ room n (joined (sepsOf
 testsOf (set-file-name m p q n) = mode m ∷ long p ∷ long q ∷ room n (joined (sepsOf m) (baseOf (sepsOf m) p) q) ∷ []
 testsOf (set-extension m p e n) = mode m ∷ long p ∷ long e ∷ test (holds (isSep (sepsOf m)) e) Name ∷ absent (isNamed (lastName (sepsOf m) p)) ∷ room n (made (extended (sepsOf m) p e)) ∷ []
 testsOf (absolute m s cwd n) = test (ltb 0 m) Mode ∷ long s ∷ long cwd ∷ test (eqb (length s) 0) Empty ∷ baseless s cwd ∷ room n (finished s (startFor s cwd)) ∷ []
+
+-- "Where several hold, the order is 1, 2, 8, 4, 5, 6, 3, 7."
+pub in-order : (c : Call) → rising 1 (testsOf c) ≡ true
+unfolding testsOf rising
+in-order (prefix m s) = refl
+in-order (next c s) = refl
+in-order (next-back c s) = refl
+in-order (as-path c s) = refl
+in-order (parent m s) = refl
+in-order (ancestor m s n) = refl
+in-order (file-name m s) = refl
+in-order (file-stem m s) = refl
+in-order (extension m s) = refl
+in-order (has-root m s) = refl
+in-order (is-absolute m s) = refl
+in-order (compare m p q) = refl
+in-order (starts-with m p q) = refl
+in-order (ends-with m p q) = refl
+in-order (strip-prefix m p q) = refl
+in-order (join m p q n) = refl
+in-order (set-file-name m p q n) = refl
+in-order (set-extension m p e n) = refl
+in-order (absolute m s cwd n) = refl
 
 -- ---- one law a shape: a guard in front, and the end of the chain
 
@@ -275,3 +299,7 @@ replies (absolute m s cwd n) = wrote-test n _ _ Mode _ _ refl (wrote-test n _ _ 
 -- every call gives a reply exactly where its first test that holds says so, or it is Done and none holds
 pub exactly : (c : Call) (r : Reply) → (replyTo c ≡ r) ↔ Why (testsOf c) r
 exactly c r = rw (replies c) (exactly-when (testsOf c) r)
+
+-- 0 "otherwise": Done exactly where no test holds
+pub otherwise-done : (c : Call) → (replyTo c ≡ Done) ↔ None (testsOf c)
+otherwise-done c = (λ e. done-none (testsOf c) 1 (omega arith) (in-order c) (sym (replies c) ∙ e), λ n. replies c ∙ done-when (testsOf c) n)

@@ -8,3 +8,4 @@ pub mod Rooms
 pub mod Calls
 pub mod Matches
 pub mod Given
+pub mod Adversaries

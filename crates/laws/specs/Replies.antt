@@ -1,16 +1,18 @@
 -- A list of tests, each with the reply that it gives: the reply of the first test that holds, and Done where none does. Given.antt has
 -- the tests of every call.
-use Prim.Native.Nat.{ℕ}
+use Prim.Native.Nat.{ℕ, _<_, _≤_}
+use native.Mathlib.Omega.{arith}
 use mathlib.Core.Path.{_≡_, refl, ap}
 use mathlib.Core.List.{List, [], _∷_, _++_}
-use mathlib.Core.Bool.{Bool, true, false, cond}
+use mathlib.Core.Bool.{Bool, true, false, cond, false≢true}
 use mathlib.Core.Logic.{_↔_}
 use lib.ListN.{length}
-use lib.Dec.{ltb}
+use lib.Dec.{ltb, leb}
+use borrow.Author.Tests.{leb-true}
 use Rattle.octets.specs.Class.{limit}
 use Rattle.octets.specs.Laws.{split}
 use Rattle.answers.specs.declared.Reply.{Reply}
-use Rattle.answers.specs.declared.Reply.the-variants.{Done, Mode, Length}
+use Rattle.answers.specs.declared.Reply.the-variants.{Done, Mode, Length, Absent, Name, Empty, Base, Room, Cursor}
 
 -- a test, and the reply that it gives where it holds
 pub record Test : Type 0 where
@@ -82,6 +84,37 @@ only-when (t ∷ l) =
 -- both at once: a chain gives a reply exactly so
 pub exactly-when : (l : List Test) (r : Reply) → (firstOf l ≡ r) ↔ Why l r
 exactly-when l r = (λ e. rw e at (only-when l), why-gives l r)
+
+-- ---- "Where several hold, the order is 1, 2, 8, 4, 5, 6, 3, 7."
+
+-- a reply's place in that order; Done stands before all
+abbrev pub place : Reply → ℕ
+place Done = 0
+place Mode = 1
+place Length = 2
+place Cursor = 3
+place Name = 4
+place Empty = 5
+place Base = 6
+place Absent = 7
+place Room = 8
+
+-- no test stands before one of an earlier place, and none before n
+unfoldable pub rising : ℕ → List Test → Bool
+rising n [] = true
+rising n (t ∷ l) = cond (leb n (place (t .reply))) (rising (place (t .reply)) l) false
+
+-- in such a list no test gives Done, so it is Done only where none holds
+pub done-none : (l : List Test) (n : ℕ) → 0 < n → rising n l ≡ true → firstOf l ≡ Done → None l
+unfolding rising firstOf None
+done-none [] n h r e = tt
+done-none (t ∷ l) n h r e =
+    split (leb n (place (t .reply)))
+    (λ b. let i : n ≤ place (t .reply) = leb-true n (place (t .reply)) b in
+    split (t .holds)
+    (λ y. let z : place (t .reply) ≡ 0 = ap place (rw y at e) in absurd (omega arith))
+    (λ y. (y, done-none l (place (t .reply)) (omega arith) (rw b at r) (rw y at e))))
+    (λ b. absurd (false≢true (rw b at r)))
 
 -- the two tests of every call: 1 and 2
 abbrev pub mode : ℕ → Test
