@@ -134,7 +134,7 @@ step-took n c s i d a e y =
     (omega (arith, o), u .1)
 
 -- a step that is Done shows one element, its own by the cursor, and moves the cursor by one; that the steps of a walk show every element
--- once is `walk-meets` of Walks.antt
+-- once is `walk-calls` of Walks.antt
 module _ (c : Cursor) (s : List ℕ) (a : Stepped) where
   pub own-element : a ≡ told (refusedStep c) (nextCall c s) → a .reply ≡ Done
       → (x : Element) × (nthOf (elements c s) (c .front) ≡ Here x) × (a ≡ tookAt (Here x) (cursor (c .mode) (c .front + 1) (c .back)))
