@@ -15,7 +15,7 @@ use Rattle.answers.specs.declared.Reply.{Reply}
 use Rattle.answers.specs.declared.Reply.the-variants.{Done, Room}
 use Rattle.answers.specs.declared.View.{View}
 use Rattle.answers.specs.Reply.{numberOf, refusedView, seen}
-use Rattle.answers.specs.Outcome.{Outcome, result, told, guard}
+use Rattle.answers.specs.Outcome.{Outcome, refuse, result, told, guard}
 use Rattle.answers.specs.Written.{over, answered, left, Wrote}
 
 -- the bytes w were left: they stand at the front of the buffer, the answer counts them, and every later byte is as before
@@ -73,6 +73,15 @@ module _ (w : List ℕ) (a : View) (before after : List ℕ) (h : Wrote (result 
         room = l;
         later = rw (n, fits l .1) (drop-append-seam w _);
       }
+
+-- "A refusal returns its number, all other numbers of the answer 0, .. the output untouched."
+pub refusal-leaves : (o : Outcome (List ℕ)) (a : View) (before after : List ℕ) → Wrote o a before after → (a .reply ≡ Done → ⊥) → (a ≡ refusedView (a .reply)) × (after ≡ before)
+unfolding answered left
+refusal-leaves (refuse r) a before after w n = (w .says ∙ ap refusedView (sym (ap replyIn (w .says))), w .leaves)
+refusal-leaves (result x) a before after w n =
+    split (leb (length x) (length before))
+    (λ y. absurd (n (done-exactly x a before after w .1 (leb-true _ _ y))))
+    (λ y. let f = full x a before after w (leb-false _ _ y) in (f .0 ∙ ap refusedView (sym (ap replyIn (f .0))), f .1))
 
 -- a call that was not answered with a guard's reply has passed it
 pub wrote-passes : (b : Bool) (k : Reply) (o : Outcome (List ℕ)) (a : View) (before after : List ℕ) → Wrote (guard b k o) a before after → (a .reply ≡ k → ⊥) → (b ≡ false) × Wrote o a before after
