@@ -17,6 +17,7 @@ pub use requests::Request;
 pub use requests::read;
 pub use verbs::Verb;
 pub use words::find;
+pub use words::same;
 
 // A longer line is no request.
 pub const LONGEST: usize = 33000;
