@@ -6,7 +6,7 @@ use native.Mathlib.Omega.{arith}
 use mathlib.Core.Path.{_≡_, refl, sym, ap, _∙_}
 use mathlib.Core.List.{List, [], _∷_, _++_}
 use mathlib.Core.Bool.{Bool, true, false, not, cond, false≢true}
-use lib.ListN.{length, getD, length-append, List·getD-eq-default}
+use lib.ListN.{length, getD, drop, length-append, List·getD-eq-default}
 use lib.Seq.{take-length}
 use lib.Dec.{eqb, ltb}
 use borrow.Author.Tests.{eq-eqb, ne-eqb, lt-ltb, le-ltb, ltb-true, ltb-false}
@@ -18,24 +18,26 @@ use Rattle.prefixes.specs.declared.Prefix.{Prefix}
 use Rattle.prefixes.specs.declared.Prefix.the-variants.{Verbatim, VerbatimUnc, VerbatimDisk, DeviceNs, Unc, Disk}
 use Rattle.prefixes.specs.declared.Parsed.{Parsed}
 use Rattle.prefixes.specs.declared.Parsed.the-variants.{Nothing, Is}
-use Rattle.prefixes.specs.Prefix.{prefixIn, endOfPrefix}
-use Rattle.prefixes.specs.Laws.{end-within}
+use Rattle.prefixes.specs.Prefix.{turned, begins, capital, drive, driveExact, namesOf, verbatimOf, uncOf, isVerbatim, deviceOf, prefixOf, prefixIn, endOfPrefix}
+use Rattle.prefixes.specs.Laws.{by-cond, drive-long, drive-disk, bare-none, end-within}
 use Rattle.parts.specs.declared.Component.the-variants.{Prefix as Prefixed, RootDir, CurDir}
 use Rattle.parts.specs.declared.Element.{Element}
 use Rattle.parts.specs.declared.Item.{Item}
 use Rattle.parts.specs.declared.Item.the-variants.{Missing, Here}
 use Rattle.parts.specs.declared.Part.{Part}
 use Rattle.parts.specs.declared.Piece.{Piece}
-use Rattle.parts.specs.declared.Piece.the-variants.{Nothing as None, Found}
+use Rattle.parts.specs.declared.Piece.the-variants.{Found}
+use Rattle.parts.specs.declared.Back.{Back}
+use Rattle.parts.specs.declared.Back.the-variants.{At, Left}
 use Rattle.parts.specs.Body.{dots, from}
 use Rattle.parts.specs.Elements.{nthOf, nthBackOf, Upto}
-use Rattle.parts.specs.Steps.{lift, raised, within}
-use Rattle.parts.specs.Laws.{from-upto, upto-append, few, nth-append, nth-behind, nth-past, back-behind, back-before, back-past, back-nth, back-missing, back-inside-of}
+use Rattle.parts.specs.Steps.{lift, raised, within, BackAt}
+use Rattle.parts.specs.Laws.{from-upto, upto-append, few, nth-append, nth-behind, nth-past, back-behind, back-before, back-past, back-nth, back-inside-of}
 use Rattle.components.specs.declared.Dir.{Dir}
 use Rattle.components.specs.declared.Dir.the-variants.{Bare, Root, Implied, Dot}
 use Rattle.components.specs.declared.Start.{Start}
 use Rattle.components.specs.List.{sepAt, dotAt, prefixSeps, innerSeps, prefixDir, behindPrefix, dirOf, dirLen, startOf, prefixPart, dirPart, headList, bodyList, wholeOf, listOf, isDisk, rootless, isRoot, hasRoot, wantsPrefix, isAbsolute}
-use Rattle.components.specs.Leaves.{OpenAt, CountAt}
+use Rattle.components.specs.Leaves.{startWith, OpenAt, CountAt}
 
 -- `sep_at`, `dot_at`
 module _ (k : Seps) (s : List ℕ) (i : ℕ) where
@@ -115,19 +117,79 @@ dir-in k s p h =
     (λ e. rw e (omega (arith, sep-inside k s (endOfPrefix p) e)))
     (λ e. rw e (behind-in k s p h))
 
--- the calls' answers in turn
-module _ (k : Seps) (s : List ℕ) (p : Parsed) (f : p ≡ prefixIn k s) (e : ℕ) (g : e ≡ endOfPrefix p) (d : Dir) (h : d ≡ dirOf k p s e) (n : ℕ) (l : n ≡ dirLen d) where
-  at-in : e + n ≤ length s
-  at-in = rw (l, h, g) (dir-in k s p (end-within k s p f))
+-- `start_with`
+module _ (k : Seps) (p : Parsed) (e : ℕ) (d : Dir) (n : ℕ) (l : n ≡ dirLen d) where
+  pub with-fits : e + dirLen d < 2 ^ 63 → Fits w64 (e + n)
+  with-fits w = record { fits = omega arith }
 
-  pub begin-fits : length s * 1 < 2 ^ 63 → Fits w64 (e + n)
-  begin-fits w = record { fits = omega (arith, at-in) }
+  pub with-is : (r : Seps) → r ≡ innerSeps k p → record { prefix = p; end = e; dir = d; at = e + n; seps = r } ≡ startWith k p e d
+  unfolding startWith
+  with-is r j = rw (j, l)
 
-  pub begin-is : (r : Seps) → r ≡ innerSeps k p → OpenAt k s (record { prefix = p; end = e; dir = d; at = e + n; seps = r })
-  unfolding startOf
-  begin-is r j = record { is = rw (j, l, h, g, f); low = omega arith; high = at-in }
+-- what is found of the prefix p, of its end e and of step 2 makes a start
+module _ (k : Seps) (s : List ℕ) (p : Parsed) (f : p ≡ prefixIn k s) (e : ℕ) (g : e ≡ endOfPrefix p) (d : Dir) (h : d ≡ dirOf k p s e) where
+  at-in : e + dirLen d ≤ length s
+  at-in = rw (h, g) (dir-in k s p (end-within k s p f))
 
-pub ruleset heads = (sep-in, sep-past, dot-past, dot-not, dot-end, dot-sep, seps-behind, dir-dot, dir-bare, dir-prefix, dir-root, dir-else, end-within, begin-fits, begin-is)
+  pub parsed-small : length s * 1 < 2 ^ 63 → e + dirLen d < 2 ^ 63
+  parsed-small w = omega (arith, at-in)
+
+  pub parsed-open : (r : Start) → r ≡ startWith k p e d → OpenAt k s r
+  unfolding startOf startWith
+  parsed-open r j = rw j (record { is = rw (h, g, f); low = omega arith; high = at-in })
+
+pub begin-is : (k : Seps) (s : List ℕ) (p : Parsed) → p ≡ prefixIn k s → (e : ℕ) → e ≡ endOfPrefix p → (d : Dir) → d ≡ dirOf k p s e → (n : ℕ) → n ≡ dirLen d → (r : Seps) → r ≡ innerSeps k p → OpenAt k s (record { prefix = p; end = e; dir = d; at = e + n; seps = r })
+begin-is k s p f e g d h n l r j = parsed-open k s p f e g d h _ (with-is k p e d n l r j)
+
+-- `plain_start`
+module _ (k : Seps) (s : List ℕ) (f : prefixIn k s ≡ Nothing) (d : Dir) (h : d ≡ dirOf k Nothing s 0) where
+  pub plain-small : length s * 1 < 2 ^ 63 → 0 + dirLen d < 2 ^ 63
+  plain-small w = parsed-small k s Nothing (sym f) 0 refl d h w
+
+  pub plain-open : (r : Start) → r ≡ startWith k Nothing 0 d → OpenAt k s r
+  plain-open r j = parsed-open k s Nothing (sym f) 0 refl d h r j
+
+-- `drive_start`
+module _ (k : Seps) (s : List ℕ) (w : k ≡ Windows) (h : drive s ≡ true) where
+  on-disk : prefixIn k s ≡ Is (Disk (capital (getD s 0 0)))
+  on-disk = rw w (drive-disk s h)
+
+  pub drive-some : 0 < length s
+  drive-some = omega (arith, drive-long s h)
+
+  module _ (c : ℕ) (e : c ≡ capital (getD s 0 0)) (d : Dir) (g : d ≡ dirOf k (Is (Disk c)) s 2) where
+    letter : Is (Disk c) ≡ prefixIn k s
+    letter = rw e (sym on-disk)
+
+    pub drive-small : length s * 1 < 2 ^ 63 → 2 + dirLen d < 2 ^ 63
+    drive-small l = parsed-small k s (Is (Disk c)) letter 2 refl d g l
+
+    pub drive-open : (r : Start) → r ≡ startWith k (Is (Disk c)) 2 d → OpenAt k s r
+    drive-open r j = parsed-open k s (Is (Disk c)) letter 2 refl d g r j
+
+-- `begin`: where there is no prefix
+pub unix-plain : (k : Seps) (s : List ℕ) → k ≡ Unix → prefixIn k s ≡ Nothing
+unix-plain k s e = rw e
+
+pub verbatim-plain : (k : Seps) (s : List ℕ) → k ≡ OnlyBack → prefixIn k s ≡ Nothing
+verbatim-plain k s e = rw e
+
+no-begin : (s : List ℕ) → sepAt Windows s 0 ≡ false → begins (92 ∷ 92 ∷ []) s ≡ false
+unfolding sepAt begins turned
+no-begin [] h = refl
+no-begin (x ∷ s) h =
+    let g : isSep Windows x ≡ false = sym (simp (lt-ltb 0 (length (x ∷ s)) (omega arith))) ∙ h in
+    split (eqb x 47)
+    (λ e. absurd (false≢true (sym (rw e at g))))
+    (λ e. simp (e, rw e at g))
+
+pub windows-plain : (k : Seps) (s : List ℕ) (b c : Bool) → k ≡ Windows → b ≡ drive s → b ≡ false → c ≡ sepAt k s 0 → c ≡ false → prefixIn k s ≡ Nothing
+windows-plain k s b c w e f g h = rw w (bare-none s (sym e ∙ f) (no-begin s (rw w at (sym g ∙ h))))
+
+pub on-drive : (s : List ℕ) (b : Bool) → b ≡ drive s → b ≡ true → drive s ≡ true
+on-drive s b e f = sym e ∙ f
+
+pub ruleset heads = (sep-in, sep-past, dot-past, dot-not, dot-end, dot-sep, seps-behind, dir-dot, dir-bare, dir-prefix, dir-root, dir-else, end-within, with-fits, with-is, parsed-small, parsed-open, plain-small, plain-open, drive-some, drive-small, drive-open, unix-plain, verbatim-plain, windows-plain, on-drive)
 
 -- ---- the head's elements
 
@@ -241,31 +303,27 @@ body-within : (h : Start) (s : List ℕ) → bodyList h s ≡ within (isSep (h .
 unfolding bodyList within
 body-within h s = rw (take-length s)
 
-module _ (h : Start) (s : List ℕ) (b : ℕ) (p : Piece) (e : raised p ≡ nthBackOf (within (isSep (h .seps)) (dots (h .seps)) s (h .at) (length s)) b) where
-  module _ (q : Part) (g : p ≡ Found q) where
-    pub back-found : (r : Item) → r ≡ raised p → r ≡ nthBackOf (wholeOf h s) b
-    unfolding wholeOf
-    back-found r f =
-        let i : b < length (bodyList h s) = rw (body-within h s) (back-inside-of _ b {p = lift q} (sym e ∙ rw g)) in
-        f ∙ e ∙ sym (back-behind (headList h) (bodyList h s) b i ∙ rw (body-within h s))
+module _ (h : Start) (s : List ℕ) (b : ℕ) (p : Back) (e : BackAt (within (isSep (h .seps)) (dots (h .seps)) s (h .at) (length s)) b p) where
+  pub back-at : (q : Part) (r : Item) → p ≡ At q → r ≡ raised (Found q) → r ≡ nthBackOf (wholeOf h s) b
+  unfolding wholeOf
+  back-at q r g f =
+      let t : Here (lift q) ≡ nthBackOf (bodyList h s) b = rw (body-within h s) (rw g at e) in
+      f ∙ t ∙ sym (back-behind (headList h) (bodyList h s) b (back-inside-of (bodyList h s) b {p = lift q} (sym t)))
 
-  module _ (g : p ≡ None) (m : ℕ) (c : m ≡ length (from (isSep (h .seps)) (dots (h .seps)) s (h .at))) where
-    pub body-past : m ≤ b
-    unfolding bodyList
-    body-past =
-        let i : length (bodyList h s) ≤ b = rw (body-within h s) (back-missing _ b (sym e ∙ rw g)) in
-        omega arith
+  pub back-left : (c : ℕ) (r : Item) → p ≡ Left c → r ≡ nthBackOf (headList h) c → r ≡ nthBackOf (wholeOf h s) b
+  unfolding wholeOf
+  back-left c r g f =
+      let t : length (bodyList h s) + c ≡ b = rw (body-within h s) (rw g at e) in
+      let m : b - length (bodyList h s) ≡ c = omega arith in
+      f ∙ sym (back-before (headList h) (bodyList h s) b (omega arith) ∙ rw m)
 
-    ahead : nthBackOf (wholeOf h s) b ≡ nthBackOf (headList h) (b - m)
-    unfolding wholeOf bodyList
-    ahead = back-before (headList h) (bodyList h s) b (omega (arith, body-past)) ∙ ap (λ (x : ℕ). nthBackOf (headList h) (b - x)) (sym c)
+-- `head_back`
+module _ (h : Start) (b n : ℕ) (c : CountAt (headList h) n) where
+  pub head-back : (r : Item) → b < n → r ≡ nthOf (headList h) (n - 1 - b) → r ≡ nthBackOf (headList h) b
+  head-back r l f = f ∙ sym (back-nth (headList h) b (omega (arith, c .is)) ∙ rw (c .is))
 
-    module _ (n : ℕ) (d : CountAt (headList h) n) where
-      pub back-head : (r : Item) → b - m < n → r ≡ nthOf (headList h) (n - 1 - (b - m)) → r ≡ nthBackOf (wholeOf h s) b
-      back-head r l f = f ∙ sym (ahead ∙ back-nth (headList h) (b - m) (omega (arith, d .is)) ∙ rw (d .is))
-
-      pub back-out : n ≤ b - m → Missing ≡ nthBackOf (wholeOf h s) b
-      back-out l = sym (ahead ∙ back-past (headList h) (b - m) (omega (arith, d .is)))
+  pub head-out : n ≤ b → Missing ≡ nthBackOf (headList h) b
+  head-out l = sym (back-past (headList h) b (omega (arith, c .is)))
 
 -- `element`, `element_back`, `total`
 module _ (k : Seps) (s : List ℕ) (h : Start) (o : OpenAt k s h) where
@@ -282,18 +340,74 @@ module _ (k : Seps) (s : List ℕ) (h : Start) (o : OpenAt k s h) where
   pub total-of-list : (r : ℕ) → CountAt (wholeOf h s) r → CountAt (listOf k s) r
   total-of-list r c = rw (← whole-list) c
 
+-- ---- the tests on the head
+
+-- a prefix that is no drive has a root
+abbrev Rooted : Parsed → Type 0
+Rooted Nothing = Unit
+Rooted (Is p) = isDisk p ≡ false
+
+verbatim-rooted : (s : List ℕ) → isDisk (verbatimOf s) ≡ false
+unfolding verbatimOf
+verbatim-rooted s =
+    by-cond (λ (p : Prefix). isDisk p ≡ false) (begins (85 ∷ 78 ∷ 67 ∷ 92 ∷ []) (drop 4 s)) _ _ (λ _. refl)
+    (λ _. by-cond (λ (p : Prefix). isDisk p ≡ false) (driveExact (drop 4 s)) _ _ (λ _. refl) (λ _. refl))
+
+device-rooted : (s : List ℕ) → Rooted (deviceOf s)
+unfolding deviceOf uncOf
+device-rooted s =
+    by-cond Rooted (begins (46 ∷ 92 ∷ []) (drop 2 s)) _ _ (λ _. refl)
+    (λ _. by-cond Rooted (eqb (namesOf (isSep Windows) 2 (drop 2 s) .server .len) 0) _ _ (λ _. tt)
+    (λ _. by-cond Rooted (eqb (namesOf (isSep Windows) 2 (drop 2 s) .share .len) 0) _ _ (λ _. tt) (λ _. refl)))
+
+rooted : (s : List ℕ) → drive s ≡ false → Rooted (prefixOf s)
+unfolding prefixOf
+rooted s h =
+    by-cond Rooted (begins (92 ∷ 92 ∷ []) s) _ _
+    (λ _. by-cond Rooted (isVerbatim s) _ _ (λ _. verbatim-rooted s) (λ _. device-rooted s))
+    (λ _. rw h tt)
+
+module _ (k : Seps) (s : List ℕ) where
+  plain-has : prefixIn k s ≡ Nothing → hasRoot k s ≡ sepAt k s 0
+  unfolding hasRoot startOf dirOf
+  plain-has e =
+      split (sepAt k s 0)
+      (λ y. rw (e, y))
+      (λ n. rw (e, n) (split (dotAt k s 0) (λ y. rw y) (λ y. rw y)))
+
+  disk-has : (c : ℕ) → prefixIn k s ≡ Is (Disk c) → hasRoot k s ≡ sepAt k s 2
+  unfolding hasRoot startOf dirOf
+  disk-has c e = split (sepAt k s 2) (λ y. rw (e, y)) (λ n. rw (e, n))
+
+  other-has : (p : Prefix) → prefixIn k s ≡ Is p → isDisk p ≡ false → hasRoot k s ≡ true
+  unfolding hasRoot
+  other-has p e f = rw (e, f) (split (isRoot (startOf k s .dir)) (λ y. rw y) (λ n. rw n))
+
+  rooted-has : (p : Parsed) → prefixIn k s ≡ p → Rooted p → sepAt k s 0 ≡ true → hasRoot k s ≡ true
+  rooted-has Nothing e t y = plain-has e ∙ y
+  rooted-has (Is p) e t y = other-has p e t
+
   -- `has_root`
-  module _ (b : Bool) (e : b ≡ isRoot (h .dir)) where
-    pub root-here : b ≡ true → true ≡ hasRoot k s
-    unfolding hasRoot
-    root-here y = rw (← o .is, ← e, y)
+  pub unix-root : (r : Bool) → k ≡ Unix → r ≡ sepAt k s 0 → r ≡ hasRoot k s
+  unix-root r w f = f ∙ sym (plain-has (unix-plain k s w))
 
-    pub root-prefix : (r : Bool) → b ≡ false → r ≡ rootless (h .prefix) → not r ≡ hasRoot k s
-    unfolding hasRoot startOf
-    root-prefix r n f = rw f (rw (o .is) (rw (← rw (o .is) at e, n)))
+  pub verbatim-root : (r : Bool) → k ≡ OnlyBack → r ≡ sepAt k s 0 → r ≡ hasRoot k s
+  verbatim-root r w f = f ∙ sym (plain-has (verbatim-plain k s w))
 
-pub disk-rootless : (p : Parsed) (q : Prefix) (r : Bool) → p ≡ Is q → r ≡ isDisk q → r ≡ rootless p
-disk-rootless p q r e f = f ∙ rw e
+  -- `windows_root`
+  module _ (w : k ≡ Windows) (b : Bool) (e : b ≡ drive s) where
+    pub drive-root : (r : Bool) → b ≡ true → r ≡ sepAt k s 2 → r ≡ hasRoot k s
+    drive-root r h f = f ∙ sym (disk-has _ (on-disk k s w (sym e ∙ h)))
+
+    module _ (h : b ≡ false) where
+      no-drive : Rooted (prefixIn k s)
+      no-drive = rw w (rooted s (sym e ∙ h))
+
+      pub other-root : (r : Bool) → r ≡ sepAt k s 0 → r ≡ hasRoot k s
+      other-root r f =
+          f ∙ split (sepAt k s 0)
+          (λ y. y ∙ sym (rooted-has (prefixIn k s) refl no-drive y))
+          (λ n. sym (plain-has (windows-plain k s b (sepAt k s 0) w e h refl n)))
 
 -- `wants_prefix`, `is_absolute`
 pub wants-none : (k : Seps) (p : Parsed) → k ≡ Windows → p ≡ Nothing → true ≡ wantsPrefix k p
@@ -302,16 +416,29 @@ wants-none k p e f = rw (e, f)
 pub wants-some : (k : Seps) (p : Parsed) (q : Prefix) → k ≡ Windows → p ≡ Is q → false ≡ wantsPrefix k p
 wants-some k p q e f = rw (e, f)
 
-module _ (k : Seps) (s : List ℕ) (p : Parsed) (e : p ≡ prefixIn k s) (b : Bool) (f : b ≡ wantsPrefix k p) where
-  pub absolute-not : b ≡ true → false ≡ isAbsolute k s
+module _ (k : Seps) (s : List ℕ) (r : Bool) where
+  pub unix-absolute : k ≡ Unix → r ≡ sepAt k s 0 → r ≡ isAbsolute k s
   unfolding isAbsolute
-  absolute-not y = rw (← e, ← f, y)
+  unix-absolute w f = unix-root k s r w f ∙ rw w
 
-  pub absolute-root : (r : Bool) → b ≡ false → r ≡ hasRoot k s → r ≡ isAbsolute k s
+  pub verbatim-absolute : k ≡ OnlyBack → r ≡ sepAt k s 0 → r ≡ isAbsolute k s
   unfolding isAbsolute
-  absolute-root r n g = g ∙ rw (← e, ← f, n)
+  verbatim-absolute w f = verbatim-root k s r w f ∙ rw w
 
-pub ruleset lists = (item-bare, item-root, item-implied, item-dot, count-sum, count-head, head-dir, head-none, head-prefix, head-second, head-third, whole-head, whole-body, total-fits, total-is, back-found, body-past, back-head, back-out, element-is, element-back-is, total-of-list, root-here, root-prefix, disk-rootless, wants-none, wants-some, absolute-not, absolute-root)
+  module _ (w : k ≡ Windows) (b : Bool) (e : b ≡ drive s) where
+    pub drive-absolute : b ≡ true → r ≡ sepAt k s 2 → r ≡ isAbsolute k s
+    unfolding isAbsolute
+    drive-absolute h f = drive-root k s w b e r h f ∙ rw (on-disk k s w (sym e ∙ h), w)
+
+    pub other-absolute : (p : Parsed) → b ≡ false → p ≡ prefixIn k s → r ≡ wantsPrefix k p → not r ≡ isAbsolute k s
+    unfolding isAbsolute
+    other-absolute p h f g = rw (g, w) (go p (sym f) (rw (← f) at (no-drive k s w b e h)))
+      where
+        go : (p : Parsed) → prefixIn k s ≡ p → Rooted p → not (wantsPrefix Windows p) ≡ cond (wantsPrefix Windows (prefixIn Windows s)) false (hasRoot Windows s)
+        go Nothing i t = rw (rw w at i)
+        go (Is q) i t = rw (rw w at i) (sym (other-has Windows s q (rw w at i) t))
+
+pub ruleset lists = (item-bare, item-root, item-implied, item-dot, count-sum, count-head, head-dir, head-none, head-prefix, head-second, head-third, whole-head, whole-body, total-fits, total-is, back-at, back-left, head-back, head-out, element-is, element-back-is, total-of-list, wants-none, wants-some, on-drive, unix-root, verbatim-root, drive-root, other-root, unix-absolute, verbatim-absolute, drive-absolute, other-absolute)
 
 -- ---- the list lies in the path, and has few elements
 

@@ -6,7 +6,13 @@ use lib.ListN.{length}
 use Rattle.octets.specs.declared.Seps.{Seps}
 use Rattle.parts.specs.declared.Element.{Element}
 use Rattle.components.specs.declared.Start.{Start}
-use Rattle.components.specs.List.{startOf}
+use Rattle.prefixes.specs.declared.Parsed.{Parsed}
+use Rattle.components.specs.declared.Dir.{Dir}
+use Rattle.components.specs.List.{innerSeps, dirLen, startOf}
+
+-- a start by its parts
+unfoldable pub startWith : Seps → Parsed → ℕ → Dir → Start
+startWith k p e d = record { prefix = p; end = e; dir = d; at = e + dirLen d; seps = innerSeps k p }
 
 -- where the body of s starts, and that it does so in the path
 pub record OpenAt (k : Seps) (s : List ℕ) (r : Start) : Type 0 where

@@ -1,5 +1,6 @@
 // A path's list of components: what stands ahead of the body, the body, elements from either end, and the tests on the head.
 use octets::Seps;
+use parts::Back;
 use parts::Component;
 use parts::Element;
 use parts::Item;
@@ -7,11 +8,15 @@ use parts::Piece;
 use prefixes::Parsed;
 use prefixes::Prefix;
 ghost use mathlib.Core.Path.{_≡_};
-ghost use Prim.Native.Nat.{ℕ, _≤_};
+ghost use mathlib.Core.Bool.{true};
+ghost use Prim.Native.Nat.{ℕ, _+_, _^_, _<_, _≤_};
 ghost use lib.ListN.{length};
+ghost use Rattle.octets.specs.declared.Seps.the-variants.{Windows};
+ghost use Rattle.prefixes.specs.declared.Parsed.the-variants.{Nothing};
+ghost use Rattle.prefixes.specs.Prefix.{drive, prefixIn};
 ghost use Rattle.parts.specs.Elements.{nthOf, nthBackOf};
-ghost use Rattle.components.specs.List.{dotAt, sepAt, innerSeps, prefixSeps, prefixDir, behindPrefix, dirOf, dirLen, dirPart, prefixPart, headList, wholeOf, listOf, isDisk, rootless, isRoot, hasRoot, wantsPrefix, isAbsolute};
-ghost use Rattle.components.specs.Leaves.{OpenAt, CountAt};
+ghost use Rattle.components.specs.List.{dotAt, sepAt, innerSeps, prefixSeps, prefixDir, behindPrefix, dirOf, dirLen, dirPart, prefixPart, headList, wholeOf, listOf, isDisk, isRoot, hasRoot, wantsPrefix, isAbsolute};
+ghost use Rattle.components.specs.Leaves.{startWith, OpenAt, CountAt};
 
 // What document 01's second step finds behind the prefix: nothing, a separator, a root without a byte of its own, a dot.
 pub enum Dir {
@@ -128,13 +133,11 @@ fn dir_len(d: Dir) -> usize
     }
 }
 
-// Where the body starts, and what stands ahead of it.
-pub fn begin(k: Seps, s: &[u8]) -> Start
-    ensures { λ r. ⌜ OpenAt k (now (s .entry)) r ⌝ }
+// A start, of a prefix that ends at e and what step 2 found there.
+fn start_with(k: Seps, prefix: Parsed, end: usize, dir: Dir) -> Start
+    requires { ⌜ end + dirLen dir < 2 ^ 63 ⌝ }
+    ensures { λ r. ⌜ r ≡ startWith k prefix end dir ⌝ }
 {
-    let prefix = prefixes::prefix_in(k, s);
-    let end = prefixes::end_of(prefix, s);
-    let dir = dir_of(k, prefix, s, end);
     let seps = inner_seps(k, prefix);
     let at = end + dir_len(dir);
     Start {
@@ -143,6 +146,62 @@ pub fn begin(k: Seps, s: &[u8]) -> Start
         dir,
         at,
         seps,
+    }
+}
+
+// The start of a path that has no prefix.
+fn plain_start(k: Seps, s: &[u8]) -> Start
+    requires { ⌜ prefixIn k (now s) ≡ Nothing ⌝ }
+    ensures { λ r. ⌜ OpenAt k (now (s .entry)) r ⌝ }
+{
+    let p = Parsed::Nothing;
+    let d = dir_of(k, p, s, 0);
+    start_with(k, p, 0, d)
+}
+
+// The start of a path on a drive. It is told by three bytes, without the parser of prefixes: most Windows paths are such.
+fn drive_start(k: Seps, s: &[u8]) -> Start
+    requires { ⌜ (k ≡ Windows) × (drive (now s) ≡ true) ⌝ }
+    ensures { λ r. ⌜ OpenAt k (now (s .entry)) r ⌝ }
+{
+    let c = prefixes::to_capital(s[0]);
+    let p = Parsed::Is(Prefix::Disk(c));
+    let d = dir_of(k, p, s, 2);
+    start_with(k, p, 2, d)
+}
+
+// The start of any path.
+fn parsed_start(k: Seps, s: &[u8]) -> Start
+    ensures { λ r. ⌜ OpenAt k (now (s .entry)) r ⌝ }
+{
+    let p = prefixes::prefix_in(k, s);
+    let e = prefixes::end_of(p, s);
+    let d = dir_of(k, p, s, e);
+    start_with(k, p, e, d)
+}
+
+// The start of a Windows path. One that begins with neither a drive nor a separator has no prefix.
+fn windows_start(k: Seps, s: &[u8]) -> Start
+    requires { ⌜ k ≡ Windows ⌝ }
+    ensures { λ r. ⌜ OpenAt k (now (s .entry)) r ⌝ }
+{
+    if prefixes::is_drive(s) {
+        return drive_start(k, s);
+    }
+    if sep_at(k, s, 0) {
+        return parsed_start(k, s);
+    }
+    plain_start(k, s)
+}
+
+// Where the body starts, and what stands ahead of it.
+pub fn begin(k: Seps, s: &[u8]) -> Start
+    ensures { λ r. ⌜ OpenAt k (now (s .entry)) r ⌝ }
+{
+    match k {
+        Seps::Unix => plain_start(k, s),
+        Seps::Windows => windows_start(k, s),
+        Seps::Verbatim => plain_start(k, s),
     }
 }
 
@@ -243,26 +302,28 @@ pub fn element_of(h: Start, s: &[u8], f: usize) -> Item
     parts::lifted(p)
 }
 
-// The element of that list that has b others behind it. Only where the body runs out is it counted.
+// The element of the head that has b others behind it.
+fn head_back(h: Start, b: usize) -> Item
+    ensures { λ r. ⌜ r ≡ nthBackOf (headList h) b ⌝ }
+{
+    let n = head_count(h);
+    if b < n {
+        return head_at(h, n - 1 - b);
+    }
+    Item::Missing
+}
+
+// The element of that list that has b others behind it: of the body, or of the head where the body runs out.
 pub fn element_back_of(h: Start, s: &[u8], b: usize) -> Item
     ensures { λ r. ⌜ r ≡ nthBackOf (wholeOf h (now (s .entry))) b ⌝ }
 {
     let k = h.seps;
     let at = h.at;
-    let p = parts::nth_back(k, s, at, s.len(), b);
+    let p = parts::walk_back(k, s, at, s.len(), b);
     match p {
-        Piece::Found(_) => {
-            return parts::lifted(p);
-        }
-        Piece::Nothing => {}
+        Back::At(q) => parts::lifted(Piece::Found(q)),
+        Back::Left(c) => head_back(h, c),
     }
-    let m = parts::count(k, s, at);
-    let n = head_count(h);
-    let c = b - m;
-    if c < n {
-        return head_at(h, n - 1 - c);
-    }
-    Item::Missing
 }
 
 // Element f of a path's list.
@@ -311,15 +372,6 @@ pub fn is_disk(p: Prefix) -> bool
     }
 }
 
-fn is_rootless(p: Parsed) -> bool
-    ensures { λ r. ⌜ r ≡ rootless p ⌝ }
-{
-    match p {
-        Parsed::Nothing => true,
-        Parsed::Is(q) => is_disk(q),
-    }
-}
-
 pub fn is_root(d: Dir) -> bool
     ensures { λ r. ⌜ r ≡ isRoot d ⌝ }
 {
@@ -331,16 +383,25 @@ pub fn is_root(d: Dir) -> bool
     }
 }
 
+// Whether a Windows path has a root: a drive is followed by the root, and any other prefix begins with a separator.
+fn windows_root(k: Seps, s: &[u8]) -> bool
+    requires { ⌜ k ≡ Windows ⌝ }
+    ensures { λ r. ⌜ r ≡ hasRoot k (now (s .entry)) ⌝ }
+{
+    if prefixes::is_drive(s) {
+        return sep_at(k, s, 2);
+    }
+    sep_at(k, s, 0)
+}
+
 pub fn has_root(k: Seps, s: &[u8]) -> bool
     ensures { λ r. ⌜ r ≡ hasRoot k (now (s .entry)) ⌝ }
 {
-    let h = begin(k, s);
-    let d = h.dir;
-    if is_root(d) {
-        return true;
+    match k {
+        Seps::Unix => sep_at(k, s, 0),
+        Seps::Windows => windows_root(k, s),
+        Seps::Verbatim => sep_at(k, s, 0),
     }
-    let p = h.prefix;
-    !is_rootless(p)
 }
 
 // Whether a set of separators asks for a prefix that p does not have.
@@ -357,12 +418,24 @@ fn wants_prefix(k: Seps, p: Parsed) -> bool
     }
 }
 
+// Whether a Windows path is absolute: any prefix but a drive has a root with it.
+fn windows_absolute(k: Seps, s: &[u8]) -> bool
+    requires { ⌜ k ≡ Windows ⌝ }
+    ensures { λ r. ⌜ r ≡ isAbsolute k (now (s .entry)) ⌝ }
+{
+    if prefixes::is_drive(s) {
+        return sep_at(k, s, 2);
+    }
+    let p = prefixes::prefix_in(k, s);
+    !wants_prefix(k, p)
+}
+
 pub fn is_absolute(k: Seps, s: &[u8]) -> bool
     ensures { λ r. ⌜ r ≡ isAbsolute k (now (s .entry)) ⌝ }
 {
-    let p = prefixes::prefix_in(k, s);
-    if wants_prefix(k, p) {
-        return false;
+    match k {
+        Seps::Unix => sep_at(k, s, 0),
+        Seps::Windows => windows_absolute(k, s),
+        Seps::Verbatim => sep_at(k, s, 0),
     }
-    has_root(k, s)
 }

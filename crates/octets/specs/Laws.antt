@@ -3,15 +3,18 @@ use native.Mathlib.Omega.{arith}
 use Prim.Native.Nat.{ℕ, _+_, _<_, _≤_}
 use native.Mathlib.Numerals.{add-one}
 use mathlib.Core.List.{List, [], _∷_}
-use mathlib.Core.Bool.{Bool, true, false, cond}
+use mathlib.Core.Bool.{Bool, true, false, cond, false≢true}
+use lib.Dec.{eqb, ltb}
 use lib.ListN.{length, getD, drop, drop-of-length-le}
 use lib.Seq.{drop-cons}
 use mathlib.Core.Path.{_≡_, refl, sym, _∙_}
-use borrow.Author.Tests.{ne-eqb, le-leb, lt-leb}
-use Rattle.octets.specs.Class.{classOf, isLetterClass, isLetter, sepsOf}
+use borrow.Author.Tests.{eq-eqb, ne-eqb, le-leb, lt-leb, ltb-true, ltb-false}
+use Rattle.octets.specs.Class.{classOf, isLetterClass, isLetter, isSep, sepsOf}
 use Rattle.octets.specs.Segment.{lead, endOf, EndAt}
+use Rattle.octets.specs.Leaves.{lowMark, highMark, marked, ClearAt, SkipAt, ScanAt}
+use Rattle.octets.specs.declared.Seps.{Seps}
 use Rattle.octets.specs.declared.Class.{Class}
-use Rattle.octets.specs.declared.Seps.the-variants.{Unix, Windows}
+use Rattle.octets.specs.declared.Seps.the-variants.{Unix, Windows, Verbatim}
 use Rattle.octets.specs.declared.Class.the-variants.{Slash, Backslash, Dot, Colon, Letter, Other}
 
 module _ (b : ℕ) where
@@ -92,15 +95,85 @@ module _ (sep : ℕ → Bool) (s : List ℕ) (i : ℕ) where
   unfolding endOf lead
   end-out h = rw (drop-of-length-le s h) (omega arith)
 
--- `next_sep`
-module _ (sep : ℕ → Bool) (s : List ℕ) (at i : ℕ) (e : endOf sep s at ≡ endOf sep s i) (b : Bool) (t : b ≡ sep (getD s i 0)) (h : i < length s) where
-  pub sep-here : b ≡ true → at ≤ i → EndAt sep s at i
-  sep-here y l = record { is = sym (e ∙ end-here sep s i h (sym t ∙ y)); low = l; high = omega arith }
+-- `is_mark`
+module _ (a b x : ℕ) where
+  pub mark-low : x ≡ a → true ≡ marked a b x
+  unfolding marked
+  mark-low e = simp (eq-eqb x a e)
 
-  pub sep-more : b ≡ false → endOf sep s at ≡ endOf sep s (i + 1)
-  sep-more n = e ∙ end-more sep s i h (sym t ∙ n)
+  pub mark-high : (x ≡ a → ⊥) → eqb x b ≡ marked a b x
+  unfolding marked
+  mark-high h = simp (ne-eqb x a h)
 
-pub sep-none : (sep : ℕ → Bool) (s : List ℕ) (at i : ℕ) → endOf sep s at ≡ endOf sep s i → at ≤ i → i ≤ length s → length s ≤ i → EndAt sep s at i
-sep-none sep s at i e l k h = record { is = sym (e ∙ end-out sep s i h); low = l; high = k }
+pub ruleset marks = (mark-low, mark-high)
 
-pub ruleset ends = (sep-here, sep-more, sep-none)
+-- a set of separators is its two marks
+marks-are : (k : Seps) (x : ℕ) → marked (lowMark k) (highMark k) x ≡ isSep k x
+unfolding marked
+marks-are Unix x = split (eqb x 47) (λ e. rw e) (λ e. rw e)
+marks-are Windows x = refl
+marks-are Verbatim x = split (eqb x 92) (λ e. rw e) (λ e. rw e)
+
+lead-same : (f g : ℕ → Bool) → ((x : ℕ) → f x ≡ g x) → (xs : List ℕ) → lead f xs ≡ lead g xs
+unfolding lead
+lead-same f g h [] = refl
+lead-same f g h (x ∷ xs) = rw (h x, lead-same f g h xs)
+
+same-end : (k : Seps) (s : List ℕ) (i : ℕ) → endOf (marked (lowMark k) (highMark k)) s i ≡ endOf (isSep k) s i
+unfolding endOf
+same-end k s i = rw (lead-same (marked (lowMark k) (highMark k)) (isSep k) (marks-are k) (drop i s))
+
+-- `is_clear`
+module _ (sep : ℕ → Bool) (s : List ℕ) (i : ℕ) where
+  pub clear-start : (c : Bool) → ClearAt sep s i i c
+  clear-start c = record { on = λ _. refl }
+
+  pub clear-next : (j n : ℕ) (c h r : Bool) → ClearAt sep s i j c → j < n → n ≤ length s → h ≡ sep (getD s j 0) → r ≡ cond h false c → ClearAt sep s i (j + 1) r
+  clear-next j n c h r d l m t e =
+      record {
+        on =
+            λ y. split h
+            (λ f. absurd (false≢true (sym (e ∙ rw f) ∙ y)))
+            (λ f. d .on (sym (e ∙ rw f) ∙ y) ∙ end-more sep s j (omega arith) (sym t ∙ f));
+      }
+
+pub clear-end : (k : Seps) (s : List ℕ) (i j n a b : ℕ) (c : Bool) → ClearAt (marked a b) s i j c → a ≡ lowMark k → b ≡ highMark k → n ≤ j → j ≤ n → ClearAt (isSep k) s i n c
+clear-end k s i j n a b c d e f l m =
+    let g : j ≡ n = omega arith in
+    let w : ClearAt (marked (lowMark k) (highMark k)) s i n c = rw (← e, ← f, ← g) d in
+    record { on = λ y. sym (same-end k s i) ∙ w .on y ∙ same-end k s n }
+
+pub ruleset clears = (clear-start, clear-next, clear-end)
+
+-- `skip_clear`, `scan`, `far_sep`, `next_sep`
+module _ (sep : ℕ → Bool) (s : List ℕ) (at : ℕ) where
+  pub skip-start : at ≤ length s → SkipAt sep s at at
+  skip-start h = record { low = omega arith; high = h; same = refl }
+
+  pub skip-on : (i : ℕ) (c : Bool) → SkipAt sep s at i → ClearAt sep s i (i + 16) c → c ≡ true → i + 16 ≤ length s → SkipAt sep s at (i + 16)
+  skip-on i c h d y m = record { low = omega (arith, h .low); high = m; same = h .same ∙ d .on y }
+
+  module _ (i end : ℕ) (e : endOf sep s at ≡ endOf sep s i) (m : end ≤ length s) where
+    module _ (b : Bool) (t : b ≡ sep (getD s i 0)) (h : i < end) where
+      pub scan-here : b ≡ true → at ≤ i → ScanAt sep s at end i
+      scan-here y l = record { low = l; high = omega arith; same = e; stop = λ _. end-here sep s i (omega arith) (sym t ∙ y) }
+
+      pub scan-more : b ≡ false → endOf sep s at ≡ endOf sep s (i + 1)
+      scan-more n = e ∙ end-more sep s i (omega arith) (sym t ∙ n)
+
+    pub scan-none : at ≤ i → i ≤ end → end ≤ i → ScanAt sep s at end i
+    scan-none l k h = record { low = l; high = k; same = e; stop = λ f. absurd (omega arith) }
+
+  pub far-is : (i r : ℕ) → SkipAt sep s at i → ScanAt sep s i (length s) r → EndAt sep s at r
+  far-is i r h d =
+      let g : endOf sep s r ≡ r = split (ltb r (length s)) (λ e. d .stop (ltb-true r (length s) e)) (λ e. end-out sep s r (ltb-false r (length s) e)) in
+      record { is = sym (h .same ∙ d .same ∙ g); low = omega (arith, h .low, d .low); high = d .high }
+
+  module _ (i e : ℕ) (d : ScanAt sep s at e i) where
+    pub near-is : i < e → e ≤ length s → EndAt sep s at i
+    near-is h m = record { is = sym (d .same ∙ d .stop h); low = d .low; high = omega arith }
+
+    pub near-far : (r : ℕ) → EndAt sep s i r → EndAt sep s at r
+    near-far r h = record { is = h .is ∙ sym (d .same); low = omega (arith, d .low, h .low); high = h .high }
+
+pub ruleset ends = (skip-start, skip-on, scan-here, scan-more, scan-none, far-is, near-is, near-far)

@@ -21,6 +21,8 @@ use Rattle.parts.specs.declared.Item.the-variants.{Missing, Here}
 use Rattle.parts.specs.declared.Part.{Part}
 use Rattle.parts.specs.declared.Piece.{Piece}
 use Rattle.parts.specs.declared.Piece.the-variants.{Nothing, Found}
+use Rattle.parts.specs.declared.Back.{Back}
+use Rattle.parts.specs.declared.Back.the-variants.{At, Left}
 use lib.Dec.{ltb, eqb}
 use borrow.Author.Tests.{ne-eqb, eqb-true, eqb-false, lt-ltb, le-ltb, ltb-true, ltb-false}
 use Rattle.parts.specs.declared.Kind.{Kind}
@@ -29,7 +31,7 @@ use Rattle.parts.specs.declared.Sort.{Sort}
 use Rattle.parts.specs.declared.Sort.the-variants.{Skip, Is}
 use Rattle.parts.specs.Body.{componentOf, sortBy, sortOf, put, rest, body, from, sortAt}
 use Rattle.parts.specs.Elements.{nthOf, nthBackOf, endOr, Upto}
-use Rattle.parts.specs.Steps.{lift, raised, FirstAt, Took, within, BeginAt, LastAt, TookBack}
+use Rattle.parts.specs.Steps.{lift, raised, FirstAt, Took, within, BeginAt, LastAt, TookBack, BackAt, Behind}
 
 module _ (sep : ℕ → Bool) (v : Bool) where
   -- behind the first separator stands the body of what follows it
@@ -181,28 +183,38 @@ module _ (sep : ℕ → Bool) (v : Bool) (s : List ℕ) (i : ℕ) (r : Piece) (p
   pub walk-falls : length s + 1 - (p .start + p .len + 1) < length s + 1 - i
   walk-falls = let t = first-found f g in omega arith
 
--- `count`, `nth`
-module _ (sep : ℕ → Bool) (v : Bool) (s : List ℕ) (i : ℕ) (r : Piece) (f : FirstAt sep v s i r) where
-  pub nth-out : (x : Item) (n : ℕ) → x ≡ nthOf (from sep v s i) n → r ≡ Nothing → Missing ≡ x
-  nth-out x n e h = sym (e ∙ nth-none n (first-none f h))
+-- `count`, `nth`: a turn reads the segment from i to e
+module _ (sep : ℕ → Bool) (v : Bool) (s : List ℕ) (i e : ℕ) (o : Sort) (d : EndAt sep s i e) (g : o ≡ sortAt v s i e) where
+  turn : from sep v s i ≡ put o i (e - i) (from sep v s (e + 1))
+  turn = step sep v s i ∙ rw (← d .is, ← g)
 
-  pub nth-this : (x : Item) (n : ℕ) (p : Part) → x ≡ nthOf (from sep v s i) n → r ≡ Found p → n ≡ 0 → Here (lift p) ≡ x
-  nth-this x n p e h z = sym (e ∙ nth-here (first-found f h .is) z)
+  turn-is : (q : Kind) → o ≡ Is q → from sep v s i ≡ record { component = componentOf q; start = i; len = e - i } ∷ from sep v s (e + 1)
+  turn-is q h = turn ∙ rw h
 
-  pub nth-on : (x : Item) (n : ℕ) (p : Part) → x ≡ nthOf (from sep v s i) n → r ≡ Found p → (n ≡ 0 → ⊥) → x ≡ nthOf (from sep v s (p .start + p .len + 1)) (n - 1)
-  nth-on x n p e h z = e ∙ nth-step (first-found f h .is) z
+  turn-skip : o ≡ Skip → from sep v s i ≡ from sep v s (e + 1)
+  turn-skip h = turn ∙ rw h
 
-  pub count-out : (n m : ℕ) → n + length (from sep v s i) ≡ m → r ≡ Nothing → n ≡ m
-  count-out n m e h = omega (arith, ap length (first-none f h))
+  pub count-is : (n m : ℕ) (q : Kind) → n + length (from sep v s i) ≡ m → o ≡ Is q → n + 1 + length (from sep v s (e + 1)) ≡ m
+  count-is n m q k h = omega (arith, ap length (turn-is q h))
 
-  pub count-on : (n m : ℕ) (p : Part) → n + length (from sep v s i) ≡ m → r ≡ Found p → n + 1 + length (from sep v s (p .start + p .len + 1)) ≡ m
-  count-on n m p e h = omega (arith, ap length (first-found f h .is))
+  pub count-skip : (n m : ℕ) → n + length (from sep v s i) ≡ m → o ≡ Skip → n + length (from sep v s (e + 1)) ≡ m
+  count-skip n m k h = omega (arith, ap length (turn-skip h))
 
-  pub count-low : (n : ℕ) (p : Part) → n ≤ i → r ≡ Found p → n + 1 ≤ p .start + p .len + 1
-  count-low n p l h = let t = first-found f h in omega arith
+  pub nth-this : (x : Item) (n : ℕ) (q : Kind) → x ≡ nthOf (from sep v s i) n → o ≡ Is q → n ≡ 0 → Here (record { component = componentOf q; start = i; len = e - i }) ≡ x
+  nth-this x n q k h z = sym (k ∙ nth-here (turn-is q h) z)
 
-  pub count-fits : (n : ℕ) (p : Part) → n ≤ i → r ≡ Found p → Fits w64 (n + 1)
-  count-fits n p l h = let t = first-found f h in record { fits = omega arith }
+  pub nth-on : (x : Item) (n : ℕ) (q : Kind) → x ≡ nthOf (from sep v s i) n → o ≡ Is q → (n ≡ 0 → ⊥) → x ≡ nthOf (from sep v s (e + 1)) (n - 1)
+  nth-on x n q k h z = k ∙ nth-step (turn-is q h) z
+
+  pub nth-skip : (x : Item) (n : ℕ) → x ≡ nthOf (from sep v s i) n → o ≡ Skip → x ≡ nthOf (from sep v s (e + 1)) n
+  nth-skip x n k h = k ∙ rw (turn-skip h)
+
+module _ (sep : ℕ → Bool) (v : Bool) (s : List ℕ) (i : ℕ) where
+  pub nth-out : (x : Item) (n : ℕ) → x ≡ nthOf (from sep v s i) n → length s ≤ i → Missing ≡ x
+  nth-out x n k h = sym (k ∙ nth-none n (from-end sep v s i h))
+
+  pub count-out : (n m : ℕ) → n + length (from sep v s i) ≡ m → length s ≤ i → n ≡ m
+  count-out n m k h = omega (arith, ap length (from-end sep v s i h))
 
 -- ---- from the back
 
@@ -400,7 +412,7 @@ pub back-none : (m : List Element) (b : ℕ) → m ≡ [] → nthBackOf m b ≡ 
 unfolding nthBackOf
 back-none m b e = rw e (simp (le-ltb b 0 (omega arith)))
 
--- what a walk back by `last` learns, and `nth_back`
+-- what a walk back by `last` learns
 module _ (sep : ℕ → Bool) (v : Bool) (s : List ℕ) (lo hi : ℕ) (r : Piece) (f : LastAt sep v s lo hi r) where
   pub back-inside : (p : Part) → r ≡ Found p → p .start ≤ length s
   back-inside p g = let t = last-found f g in omega arith
@@ -417,18 +429,69 @@ module _ (sep : ℕ → Bool) (v : Bool) (s : List ℕ) (lo hi : ℕ) (r : Piece
       go Nothing f = sym (back-none (within sep v s lo hi) 0 (f .is))
       go (Found p) f = sym (back-last (within sep v s lo hi) (within sep v s lo (p .start)) (lift p) (f .is))
 
-  pub nth-back-out : (x : Item) (n : ℕ) → x ≡ nthBackOf (within sep v s lo hi) n → r ≡ Nothing → Missing ≡ x
-  nth-back-out x n e h = sym (e ∙ back-none (within sep v s lo hi) n (last-none f h))
+-- `walk_back`: t says what the loop has kept, n parts to go from hi
+module _ (l : List Element) (b : ℕ) (sep : ℕ → Bool) (v : Bool) (s : List ℕ) (lo hi n : ℕ) (t : Behind l b (within sep v s lo hi) n) (c : hi ≤ length s) where
+  pub walk-out : hi ≤ lo → length l + n ≡ b
+  walk-out h = omega (arith, t .left, ap length (within-none sep v s lo hi h c))
 
-  pub nth-back-this : (x : Item) (n : ℕ) (p : Part) → x ≡ nthBackOf (within sep v s lo hi) n → r ≡ Found p → n ≡ 0 → Here (lift p) ≡ x
-  nth-back-this x n p e h z = sym (e ∙ rw z (back-last _ (within sep v s lo (p .start)) (lift p) (last-found f h .is)))
+  module _ (i : ℕ) (o : Sort) (d : BeginAt sep s lo hi i) (g : o ≡ sortAt v s i hi) where
+    upto : within sep v s lo hi ≡ within sep v s lo i ++ put o i (hi - i) []
+    upto = here sep v s lo hi hi refl (omega arith) c i o d g
 
-  pub nth-back-on : (x : Item) (n : ℕ) (p : Part) → x ≡ nthBackOf (within sep v s lo hi) n → r ≡ Found p → (n ≡ 0 → ⊥) → x ≡ nthBackOf (within sep v s lo (p .start)) (n - 1)
-  nth-back-on x n p e h z =
-      let m : n ≡ n - 1 + 1 = omega arith in
-      e ∙ ap (nthBackOf (within sep v s lo hi)) m ∙ back-on _ (within sep v s lo (p .start)) (lift p) (last-found f h .is) (n - 1)
+    none : i ≡ lo → within sep v s lo i ≡ []
+    none e = within-none sep v s lo i (omega arith) (omega (arith, d .high))
 
-pub ruleset walks = (back-inside, back-falls, nth-back-out, nth-back-this, nth-back-on, begin-start, begin-here, begin-more, begin-out, back-out, back-here, back-skip, back-first, first-here, first-skip, first-out, end-fits, next-fits, part-in, walk-falls, nth-out, nth-this, nth-on, count-out, count-on, count-low, count-fits)
+    past : (i ≡ lo → ⊥) → within sep v s lo i ≡ within sep v s lo (i - 1)
+    past e = ⊎-elim (λ w. absurd (e w)) (λ w. ahead sep v s lo i (w .0) (omega (arith, d .high)) (w .1)) (d .edge)
+
+    module _ (q : Kind) (h : o ≡ Is q) where
+      part : Element
+      part = record { component = componentOf q; start = i; len = hi - i }
+
+      parted-at : within sep v s lo hi ≡ within sep v s lo i ++ (part ∷ [])
+      unfolding part
+      parted-at = upto ∙ rw h
+
+      long : length (within sep v s lo hi) ≡ length (within sep v s lo i) + 1
+      long = ap length parted-at ∙ length-append (within sep v s lo i) (part ∷ [])
+
+      pub walk-this : n ≡ 0 → Here (record { component = componentOf q; start = i; len = hi - i }) ≡ nthBackOf l b
+      unfolding part
+      walk-this z = sym (t .same ∙ rw z (back-last (within sep v s lo hi) (within sep v s lo i) part parted-at))
+
+      pub walk-end : (n ≡ 0 → ⊥) → i ≡ lo → length l + (n - 1) ≡ b
+      walk-end z e = omega (arith, t .left, long, ap length (none e))
+
+      pub walk-on : (n ≡ 0 → ⊥) → (i ≡ lo → ⊥) → Behind l b (within sep v s lo (i - 1)) (n - 1)
+      walk-on z e =
+          let m : n ≡ n - 1 + 1 = omega arith in
+          record {
+            same = t .same ∙ ap (nthBackOf (within sep v s lo hi)) m ∙ back-on (within sep v s lo hi) (within sep v s lo i) part parted-at (n - 1) ∙ rw (past e);
+            left = omega (arith, t .left, long, ap length (past e));
+          }
+
+    module _ (h : o ≡ Skip) where
+      same-list : within sep v s lo hi ≡ within sep v s lo i
+      same-list = upto ∙ rw (h, append-nil)
+
+      pub walk-first : i ≡ lo → length l + n ≡ b
+      walk-first e = omega (arith, t .left, ap length same-list, ap length (none e))
+
+      pub walk-skip : (i ≡ lo → ⊥) → Behind l b (within sep v s lo (i - 1)) n
+      walk-skip e = rw (← past e, ← same-list) t
+
+pub behind-all : (l : List Element) (b : ℕ) → Behind l b l b
+behind-all l b = record { same = refl; left = refl }
+
+-- `nth_back`
+module _ (l : List Element) (b : ℕ) (w : Back) (h : BackAt l b w) where
+  pub back-at : (p : Part) → w ≡ At p → Here (lift p) ≡ nthBackOf l b
+  back-at p e = rw e at h
+
+  pub back-over : (n : ℕ) → w ≡ Left n → Missing ≡ nthBackOf l b
+  back-over n e = let t : length l + n ≡ b = rw e at h in sym (back-past l b (omega arith))
+
+pub ruleset walks = (back-inside, back-falls, walk-out, walk-this, walk-end, walk-on, walk-first, walk-skip, behind-all, back-at, back-over, begin-start, begin-here, begin-more, begin-out, back-out, back-here, back-skip, back-first, first-here, first-skip, first-out, end-fits, next-fits, part-in, walk-falls, nth-out, nth-this, nth-on, nth-skip, count-is, count-skip, count-out)
 
 -- `sort_at`: t is what `dot_counts` answered
 module _ (v : Bool) (n a b : ℕ) where

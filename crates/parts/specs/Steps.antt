@@ -12,7 +12,10 @@ use Rattle.parts.specs.declared.Item.the-variants.{Missing, Here}
 use Rattle.parts.specs.declared.Part.{Part}
 use Rattle.parts.specs.declared.Piece.{Piece}
 use Rattle.parts.specs.declared.Piece.the-variants.{Nothing, Found}
+use Rattle.parts.specs.declared.Back.{Back}
+use Rattle.parts.specs.declared.Back.the-variants.{At, Left}
 use Rattle.parts.specs.Body.{componentOf, from}
+use Rattle.parts.specs.Elements.{nthBackOf}
 
 -- a part as an element of the list
 abbrev pub lift : Part → Element
@@ -77,3 +80,13 @@ pub record TookBack (sep : ℕ → Bool) (v : Bool) (s : List ℕ) (lo hi : ℕ)
   pub high : p .start + p .len ≤ hi
   pub inside : hi ≤ length s
   pub room : length s < 2 ^ 63
+
+-- what a walk back over the list l came to, b steps from its end: the element there, or how many steps are left at its beginning
+abbrev pub BackAt : List Element → ℕ → Back → Type 0
+BackAt l b (At p) = Here (lift p) ≡ nthBackOf l b
+BackAt l b (Left n) = length l + n ≡ b
+
+-- the walk goes on: n steps from the end of m stands what stands b steps from that of l
+pub record Behind (l : List Element) (b : ℕ) (m : List Element) (n : ℕ) : Type 0 where
+  pub same : nthBackOf l b ≡ nthBackOf m n
+  pub left : length l + n ≡ length m + b

@@ -8,7 +8,7 @@ ghost use lib.ListN.{length};
 ghost use Rattle.octets.specs.Class.{isSep};
 ghost use Rattle.parts.specs.Body.{componentOf, dots, sortAt, from};
 ghost use Rattle.parts.specs.Elements.{nthOf, nthBackOf};
-ghost use Rattle.parts.specs.Steps.{raised, FirstAt, within, BeginAt, LastAt};
+ghost use Rattle.parts.specs.Steps.{raised, FirstAt, within, BeginAt, LastAt, BackAt};
 
 // Document 01's five kinds of component; the prefix is the whole of it.
 pub enum Component {
@@ -53,6 +53,12 @@ pub enum Sort {
 pub enum Piece {
     Nothing,
     Found(Part),
+}
+
+// What a walk back came to: the part, or the walk's beginning with that many parts left to go.
+pub enum Back {
+    At(Part),
+    Left(usize),
 }
 
 pub fn component_of(k: Kind) -> Component
@@ -150,18 +156,20 @@ pub fn count(k: Seps, s: &[u8], at: usize) -> usize
 {
     let mut i = at;
     let mut n: usize = 0;
-    loop {
-        let p = first(k, s, i);
-        match p {
-            Piece::Nothing => {
-                return n;
-            }
-            Piece::Found(q) => {
+    while i < s.len() {
+        let e = octets::next_sep(k, s, i);
+        let q = sort_at(k, s, i, e);
+        match q {
+            Sort::Is(_) => {
                 n += 1;
-                i = q.start + q.len + 1;
+                i = e + 1;
+            }
+            Sort::Skip => {
+                i = e + 1;
             }
         }
     }
+    n
 }
 
 // Part `f` of those from `at` on.
@@ -170,21 +178,27 @@ pub fn nth(k: Seps, s: &[u8], at: usize, f: usize) -> Piece
 {
     let mut i = at;
     let mut left = f;
-    loop {
-        let p = first(k, s, i);
-        match p {
-            Piece::Nothing => {
-                return Piece::Nothing;
-            }
-            Piece::Found(q) => {
+    while i < s.len() {
+        let e = octets::next_sep(k, s, i);
+        let q = sort_at(k, s, i, e);
+        match q {
+            Sort::Is(kind) => {
                 if left == 0 {
-                    return Piece::Found(q);
+                    return Piece::Found(Part {
+                        kind,
+                        start: i,
+                        len: e - i,
+                    });
                 }
                 left -= 1;
-                i = q.start + q.len + 1;
+                i = e + 1;
+            }
+            Sort::Skip => {
+                i = e + 1;
             }
         }
     }
+    Piece::Nothing
 }
 
 // Where the segment that ends at `hi` begins: behind the last separator before it, or at `lo`.
@@ -231,26 +245,50 @@ pub fn last(k: Seps, s: &[u8], lo: usize, hi: usize) -> Piece
     Piece::Nothing
 }
 
+// `b` parts back from `hi`, no farther than `lo`: the part there, or how many of the `b` are left to go.
+pub fn walk_back(k: Seps, s: &[u8], lo: usize, hi: usize, b: usize) -> Back
+    requires { ⌜ hi ≤ length (now s) ⌝ }
+    ensures { λ r. ⌜ BackAt (within (isSep k) (dots k) (now (s .entry)) lo hi) b r ⌝ }
+{
+    let mut e = hi;
+    let mut left = b;
+    while lo < e {
+        let i = prev_sep(k, s, lo, e);
+        let q = sort_at(k, s, i, e);
+        match q {
+            Sort::Is(kind) => {
+                if left == 0 {
+                    return Back::At(Part {
+                        kind,
+                        start: i,
+                        len: e - i,
+                    });
+                }
+                left -= 1;
+                if i == lo {
+                    return Back::Left(left);
+                }
+                e = i - 1;
+            }
+            Sort::Skip => {
+                if i == lo {
+                    return Back::Left(left);
+                }
+                e = i - 1;
+            }
+        }
+    }
+    Back::Left(left)
+}
+
 // The part that has `b` others behind it, of those between `lo` and `hi`.
 pub fn nth_back(k: Seps, s: &[u8], lo: usize, hi: usize, b: usize) -> Piece
     requires { ⌜ hi ≤ length (now s) ⌝ }
     ensures { λ r. ⌜ raised r ≡ nthBackOf (within (isSep k) (dots k) (now (s .entry)) lo hi) b ⌝ }
 {
-    let mut e = hi;
-    let mut left = b;
-    loop {
-        let p = last(k, s, lo, e);
-        match p {
-            Piece::Nothing => {
-                return Piece::Nothing;
-            }
-            Piece::Found(q) => {
-                if left == 0 {
-                    return Piece::Found(q);
-                }
-                left -= 1;
-                e = q.start;
-            }
-        }
+    let w = walk_back(k, s, lo, hi, b);
+    match w {
+        Back::At(p) => Piece::Found(p),
+        Back::Left(_) => Piece::Nothing,
     }
 }

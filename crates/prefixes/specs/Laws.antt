@@ -11,7 +11,7 @@ use lib.ListN.{length, getD, take, drop, drop-of-length-le, length-drop}
 use lib.Seq.{drop-cons, take-all}
 use lib.Dec.{eqb, ltb, leb}
 use borrow.Author.Tests.{eq-eqb, ne-eqb, lt-ltb, le-ltb, ltb-true, ltb-false, eqb-true, eqb-false}
-use Rattle.octets.specs.Class.{isLetter, isSep}
+use Rattle.octets.specs.Class.{classOf, isLetter, isSep}
 use Rattle.octets.specs.declared.Seps.{Seps}
 use Rattle.octets.specs.declared.Seps.the-variants.{Unix, Windows, Verbatim as OnlyBack}
 use Rattle.octets.specs.Segment.{lead, endOf, EndAt}
@@ -113,7 +113,7 @@ drive-short (x ∷ []) h = split (isLetter x) (λ e. rw e) (λ e. rw e)
 drive-short (x ∷ y ∷ t) h = absurd (omega arith)
 
 module _ (t : List ℕ) where
-  drive-long : drive t ≡ true → 2 ≤ length t
+  pub drive-long : drive t ≡ true → 2 ≤ length t
   drive-long h = split (ltb (length t) 2) (λ e. absurd (false≢true (drive-short t (ltb-true (length t) 2 e) ∙ h))) (λ e. ltb-false (length t) 2 e)
 
   module _ (l : Bool) (e : l ≡ isLetter (getD t 0 0)) where
@@ -151,6 +151,31 @@ module _ (t : List ℕ) where
 exact-long : (t : List ℕ) → driveExact t ≡ true → 2 ≤ length t
 unfolding driveExact
 exact-long t h = drive-long t (split (drive t) (λ x. x) (λ x. absurd (false≢true (rw x at h))))
+
+-- ---- what the first bytes tell of a prefix: a letter is neither separator, so a drive begins no other prefix
+letter-slash : (b : ℕ) → isLetter b ≡ true → eqb b 47 ≡ false
+unfolding isLetter classOf
+letter-slash b h = split (eqb b 47) (λ e. absurd (false≢true (rw e at h))) (λ e. e)
+
+letter-backslash : (b : ℕ) → isLetter b ≡ true → eqb b 92 ≡ false
+unfolding isLetter classOf
+letter-backslash b h = split (eqb b 92) (λ e. absurd (false≢true (rw (letter-slash b h, e) at h))) (λ e. e)
+
+drive-first : (s : List ℕ) → drive s ≡ true → begins (92 ∷ 92 ∷ []) s ≡ false
+unfolding drive begins turned
+drive-first [] h = refl
+drive-first (x ∷ s) h =
+    let l : isLetter x ≡ true = split (isLetter x) (λ e. e) (λ e. absurd (false≢true (rw e at h))) in
+    simp (letter-slash x l, letter-backslash x l)
+
+module _ (s : List ℕ) where
+  pub drive-disk : drive s ≡ true → prefixOf s ≡ Is (Disk (capital (getD s 0 0)))
+  unfolding prefixOf
+  drive-disk h = rw (drive-first s h, h)
+
+  pub bare-none : drive s ≡ false → begins (92 ∷ 92 ∷ []) s ≡ false → prefixOf s ≡ Nothing
+  unfolding prefixOf
+  bare-none h g = rw (g, h)
 
 -- a part `&s[b..]` is so told; it is what stands behind b bytes
 abbrev part : ℕ → List ℕ → List ℕ
@@ -376,7 +401,7 @@ pub ruleset prefixes = (
 )
 
 -- ---- a prefix lies in its path
-by-cond : {A : Type 0} (P : A → Type 0) (b : Bool) (x y : A) → (b ≡ true → P x) → (b ≡ false → P y) → P (cond b x y)
+pub by-cond : {A : Type 0} (P : A → Type 0) (b : Bool) (x y : A) → (b ≡ true → P x) → (b ≡ false → P y) → P (cond b x y)
 by-cond P true x y f g = f refl
 by-cond P false x y f g = g refl
 

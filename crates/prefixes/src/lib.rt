@@ -75,7 +75,8 @@ fn has_slash(s: &[u8]) -> bool
     false
 }
 
-fn to_capital(b: u8) -> u8
+// A letter as a capital.
+pub fn to_capital(b: u8) -> u8
     ensures { λ r. ⌜ r ≡ capital b ⌝ }
 {
     if b < 97 {
@@ -85,7 +86,7 @@ fn to_capital(b: u8) -> u8
 }
 
 // Whether a letter and `:` stand at the front.
-fn is_drive(t: &[u8]) -> bool
+pub fn is_drive(t: &[u8]) -> bool
     ensures { λ r. ⌜ r ≡ drive (now (t .entry)) ⌝ }
 {
     if t.len() < 2 {
@@ -114,7 +115,7 @@ fn is_drive_exact(t: &[u8]) -> bool
 fn name_of(k: Seps, t: &[u8], i: usize) -> Name
     ensures { λ r. ⌜ r ≡ nameOf (isSep k) i (now (t .entry)) ⌝ }
 {
-    let n = octets::next_sep(k, t, 0);
+    let n = octets::far_sep(k, t, 0);
     Name { start: i, len: n }
 }
 

@@ -7,10 +7,12 @@ pub begin-spec : {M : Type 1} → statement M
 begin-spec =
     tie.close
     (tie.spec
+    (λ c. search (needs, heads))
     (λ c κs. search (needs, heads))
+    (λ c. search (needs, heads))
     (λ c κs. search (needs, heads))
+    (λ c. search (needs, heads))
     (λ c κs. search (needs, heads))
-    (λ c κs. search (needs, heads))
-    (λ c κs. search (needs, heads))
+    (λ c. search (needs, heads))
     (λ c. search (needs, heads))
     (λ c. search (needs, heads)))

@@ -7,8 +7,12 @@ pub has-root-spec : {M : Type 1} → statement M
 has-root-spec =
     tie.close
     (tie.spec
-    (λ c κs. search (needs, lists))
+    (λ c. search (needs, lists))
     (λ c κs. search (needs, lists))
     (λ c. search (needs, lists))
     (λ c κs. search (needs, lists))
+    (λ c. search (needs, lists))
+    (λ c κs. search (needs, lists))
+    (λ c. search (needs, lists))
+    (λ c. search (needs, lists))
     (λ c. search (needs, lists)))

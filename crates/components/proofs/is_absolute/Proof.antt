@@ -7,8 +7,12 @@ pub is-absolute-spec : {M : Type 1} → statement M
 is-absolute-spec =
     tie.close
     (tie.spec
-    (λ c κs. search (needs, lists))
+    (λ c. search (needs, lists))
     (λ c κs. search (needs, lists))
     (λ c. search (needs, lists))
     (λ c κs. search (needs, lists))
+    (λ c. search (needs, lists))
+    (λ c κs. search (needs, lists))
+    (λ c. search (needs, lists))
+    (λ c. search (needs, lists))
     (λ c. search (needs, lists)))

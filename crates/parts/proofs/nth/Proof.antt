@@ -1,7 +1,7 @@
 -- `parts::nth` meets its contract. The loop keeps: the element asked for is element `left` of the parts from `i` on. Assumes nothing.
 use borrow.Author.Needs.{needs}
+use Prim.Native.Nat.{_-_}
 use mathlib.Core.Path.{_≡_}
-use Prim.Native.Nat.{_+_, _-_}
 use lib.ListN.{length}
 use Rattle.octets.specs.Class.{isSep}
 use Rattle.parts.specs.Body.{dots, from}
@@ -14,7 +14,7 @@ abbrev Inv : tie.InvT-loop
 Inv k s at f i₀ left₀ i left = nthOf (from (isSep k) (dots k) s at) f ≡ nthOf (from (isSep k) (dots k) s i) left
 
 abbrev μ : tie.MeasureT-loop
-μ k s at f i₀ left₀ i left = length s + 1 - i
+μ k s at f i₀ left₀ i left = length s - i
 
 pub nth-spec : {M : Type 1} → statement M
 nth-spec =
@@ -22,6 +22,10 @@ nth-spec =
     (tie.spec Inv μ
     (λ c. search (needs, walks))
     (λ c κs. search (needs, walks))
+    (λ c κs. search (needs, walks))
+    (λ c. search (needs, walks))
+    (λ c. search (needs, walks))
+    (λ c. search (needs, walks))
     (λ c. search (needs, walks))
     (λ c. search (needs, walks))
     (λ c. search (needs, walks))
