@@ -1,3 +1,4 @@
 pub mod Rest
 pub mod Leaves
 pub mod Laws
+pub mod Ends

@@ -4,14 +4,17 @@ use components::Start;
 use octets::Seps;
 use parts::Component;
 use parts::Item;
+use parts::Piece;
 use prefixes::Parsed;
 ghost use mathlib.Core.Path.{_≡_};
+ghost use mathlib.Core.Bool.{false};
 ghost use Prim.Native.Nat.{ℕ, _+_, _-_, _^_, _<_, _≤_};
 ghost use lib.ListN.{length};
 ghost use Rattle.parts.specs.Elements.{nthOf, nthBackOf, startOr, endOr};
 ghost use Rattle.components.specs.List.{wholeOf, listOf, startOf};
 ghost use Rattle.cursors.specs.Rest.{leftOf, prefixKind, isPrefix, leftEnd, rightEnd, emptyAt, onDisk, isBare, dotted, behindDot, restOf, restAsked};
-ghost use Rattle.cursors.specs.Leaves.{In};
+ghost use Rattle.components.specs.Leaves.{OpenAt};
+ghost use Rattle.cursors.specs.Leaves.{In, SeenAt};
 
 // Whether a cursor has taken more than there is, all there is, or less.
 pub enum Left {
@@ -220,16 +223,77 @@ fn rest_of(h: Start, s: &[u8], n: usize, f: usize, b: usize) -> Span
     Span { start: e, end: e }
 }
 
+// The rest where the ends alone tell it, and nothing has to be counted.
+pub enum Seen {
+    Unknown,
+    Is(Span),
+}
+
+// With none taken at the front, what stands before the last b.
+fn rest_back(h: Start, s: &[u8], b: usize) -> Seen
+    requires { ⌜ In h (now s) × (dotted h (now s) ≡ false) ⌝ }
+    ensures { λ r. ⌜ SeenAt h (now (s .entry)) 0 b r ⌝ }
+{
+    let i = components::element_back_of(h, s, b);
+    let end = end_or(i);
+    match i {
+        Item::Missing => Seen::Unknown,
+        Item::Here(_) => Seen::Is(Span { start: 0, end }),
+    }
+}
+
+// Behind the head: from part f to the part that has b behind it, which is looked for no farther than part f.
+fn rest_between(h: Start, s: &[u8], f: usize, b: usize) -> Seen
+    requires { ⌜ In h (now s) × (2 ≤ f) ⌝ }
+    ensures { λ r. ⌜ SeenAt h (now (s .entry)) f b r ⌝ }
+{
+    let k = h.seps;
+    let at = h.at;
+    let n = components::head_count(h);
+    let p = parts::nth(k, s, at, f - n);
+    match p {
+        Piece::Nothing => Seen::Unknown,
+        Piece::Found(x) => {
+            let start = x.start;
+            let q = parts::nth_back(k, s, start, s.len(), b);
+            match q {
+                Piece::Nothing => Seen::Unknown,
+                Piece::Found(y) => Seen::Is(Span {
+                    start,
+                    end: y.start + y.len,
+                }),
+            }
+        }
+    }
+}
+
+// The rest where the ends alone tell it: none was taken at the front, or all of the head was.
+fn rest_seen(h: Start, s: &[u8], f: usize, b: usize) -> Seen
+    requires { ⌜ In h (now s) ⌝ }
+    ensures { λ r. ⌜ SeenAt h (now (s .entry)) f b r ⌝ }
+{
+    if f == 0 {
+        if is_dotted(h, s) {
+            return Seen::Unknown;
+        }
+        return rest_back(h, s, b);
+    }
+    if f == 1 {
+        return Seen::Unknown;
+    }
+    rest_between(h, s, f, b)
+}
+
 pub enum Remains {
     Beyond,
     Is(Span),
 }
 
-// The part of the path that no step has taken, where no more were taken than there are.
-pub fn rest_in(k: Seps, s: &[u8], f: usize, b: usize) -> Remains
+// The rest where all elements are counted.
+fn rest_counted(k: Seps, h: Start, s: &[u8], f: usize, b: usize) -> Remains
+    requires { ⌜ OpenAt k (now s) h ⌝ }
     ensures { λ r. ⌜ r ≡ restAsked k (now (s .entry)) f b ⌝ }
 {
-    let h = components::begin(k, s);
     let n = components::total_of(h, s);
     if n < f {
         return Remains::Beyond;
@@ -239,4 +303,16 @@ pub fn rest_in(k: Seps, s: &[u8], f: usize, b: usize) -> Remains
     }
     let r = rest_of(h, s, n, f, b);
     Remains::Is(r)
+}
+
+// The part of the path that no step has taken, where no more were taken than there are.
+pub fn rest_in(k: Seps, s: &[u8], f: usize, b: usize) -> Remains
+    ensures { λ r. ⌜ r ≡ restAsked k (now (s .entry)) f b ⌝ }
+{
+    let h = components::begin(k, s);
+    let r = rest_seen(h, s, f, b);
+    match r {
+        Seen::Is(w) => Remains::Is(w),
+        Seen::Unknown => rest_counted(k, h, s, f, b),
+    }
 }

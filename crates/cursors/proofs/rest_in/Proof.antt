@@ -1,5 +1,6 @@
 use borrow.Author.Needs.{needs}
 use Rattle.cursors.specs.Laws.{cursors}
+use Rattle.cursors.specs.Ends.{ends}
 use Rattle.cursors.proofs.rest_in.Statement.{statement}
 use Rattle.cursors.proofs.rest_in.Tie as tie
 
@@ -7,9 +8,10 @@ pub rest-in-spec : {M : Type 1} → statement M
 rest-in-spec =
     tie.close
     (tie.spec
-    (λ c κs. search (needs, cursors))
-    (λ c κs. search (needs, cursors))
-    (λ c. search (needs, cursors))
-    (λ c. search (needs, cursors))
-    (λ c κs. search (needs, cursors))
-    (λ c. search (needs, cursors)))
+    (λ c κs. search (needs, cursors, ends))
+    (λ c κs. search (needs, cursors, ends))
+    (λ c. search (needs, cursors, ends))
+    (λ c. search (needs, cursors, ends))
+    (λ c κs. search (needs, cursors, ends))
+    (λ c. search (needs, cursors, ends))
+    (λ c. search (needs, cursors, ends)))
