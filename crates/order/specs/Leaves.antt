@@ -1,5 +1,5 @@
 -- What the leaves promise and the loops keep. Nothing here has to be believed: the public promises do not name it.
-use Prim.Native.Nat.{ℕ, _+_, _-_, _<_, _≤_}
+use Prim.Native.Nat.{ℕ, _+_, _-_, _*_, _<_, _≤_}
 use mathlib.Core.Path.{_≡_}
 use mathlib.Core.List.{List, [], _∷_, _++_}
 use mathlib.Core.Bool.{Bool, true, false, cond}
@@ -29,6 +29,26 @@ pub record Least (a b n : ℕ) : Type 0 where
   pub first : n ≤ a
   pub second : n ≤ b
   pub edge : (a ≤ n) ⊎ (b ≤ n)
+
+-- r is two bytes of s from place i on as one number, the first counting least; four; eight
+pub record TwoAt (s : List ℕ) (i r : ℕ) : Type 0 where
+  pub is : r ≡ getD s i 0 + 256 * getD s (i + 1) 0
+  pub first : getD s i 0 < 256
+  pub second : getD s (i + 1) 0 < 256
+
+pub record FourAt (s : List ℕ) (i r : ℕ) : Type 0 where
+  pub low : ℕ
+  pub high : ℕ
+  pub is : r ≡ low + 65536 * high
+  pub first : TwoAt s i low
+  pub second : TwoAt s (i + 2) high
+
+pub record EightAt (s : List ℕ) (i r : ℕ) : Type 0 where
+  pub low : ℕ
+  pub high : ℕ
+  pub is : r ≡ low + 4294967296 * high
+  pub first : FourAt s i low
+  pub second : FourAt s (i + 4) high
 
 -- a and b are the same up to place r, where they differ or the shorter ends
 pub record Differ (a b : List ℕ) (r : ℕ) : Type 0 where

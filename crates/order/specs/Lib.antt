@@ -4,3 +4,4 @@ pub mod Ordered
 pub mod Leaves
 pub mod Heads
 pub mod Laws
+pub mod Eights

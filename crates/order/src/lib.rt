@@ -10,14 +10,14 @@ use prefixes::Figures;
 use prefixes::Parsed;
 ghost use mathlib.Core.Path.{_≡_};
 ghost use Prim.Native.Nat.{_+_, _<_, _≤_};
-ghost use lib.ListN.{length};
+ghost use lib.ListN.{length, take};
 ghost use Rattle.octets.specs.Class.{isSep};
 ghost use Rattle.prefixes.specs.Prefix.{parsedFigures};
 ghost use Rattle.prefixes.specs.Leaves.{NamesIn};
 ghost use Rattle.parts.specs.Steps.{lift};
 ghost use Rattle.order.specs.Values.{bytesAt, prefixValue, valueOf};
 ghost use Rattle.order.specs.Order.{andThen, cmpBytes, cmpValue, cmpValues, compareOf, orderNumber};
-ghost use Rattle.order.specs.Leaves.{Least, Differ, rankOf, named, dirRank, dirValues, headValues, bodyValues, isNil, meetThen, meet, meetFirst, meetSecond, sepsNumber, SeamAt, SkipAt};
+ghost use Rattle.order.specs.Leaves.{Least, TwoAt, FourAt, EightAt, Differ, rankOf, named, dirRank, dirValues, headValues, bodyValues, isNil, meetThen, meet, meetFirst, meetSecond, sepsNumber, SeamAt, SkipAt};
 
 pub enum Ordering {
     Less,
@@ -53,12 +53,57 @@ fn least(a: usize, b: usize) -> usize
     b
 }
 
+// Two bytes of s from i on as one number, of which the compiler makes one read; four; eight.
+fn two_bytes(s: &[u8], i: usize) -> u64
+    requires { ⌜ i + 2 ≤ length (now s) ⌝ }
+    ensures { λ r. ⌜ TwoAt (now (s .entry)) i r ⌝ }
+{
+    let j = i + 1;
+    (s[i] as u64) + 256 * (s[j] as u64)
+}
+
+fn four_bytes(s: &[u8], i: usize) -> u64
+    requires { ⌜ i + 4 ≤ length (now s) ⌝ }
+    ensures { λ r. ⌜ FourAt (now (s .entry)) i r ⌝ }
+{
+    let a = two_bytes(s, i);
+    let b = two_bytes(s, i + 2);
+    a + 65536 * b
+}
+
+fn eight_bytes(s: &[u8], i: usize) -> u64
+    requires { ⌜ i + 8 ≤ length (now s) ⌝ }
+    ensures { λ r. ⌜ EightAt (now (s .entry)) i r ⌝ }
+{
+    let a = four_bytes(s, i);
+    let b = four_bytes(s, i + 4);
+    a + 4294967296 * b
+}
+
+// A place up to which the first n bytes of a and b are the same, found by eights: fewer than eight are left, or a difference is
+// among the next eight.
+fn stretch(a: &[u8], b: &[u8], n: usize) -> usize
+    requires { ⌜ (n ≤ length (now a)) × (n ≤ length (now b)) ⌝ }
+    ensures { λ r. ⌜ (r ≤ n) × (take r (now (a .entry)) ≡ take r (now (b .entry))) ⌝ }
+{
+    let mut i: usize = 0;
+    while 8 <= n - i {
+        let x = eight_bytes(a, i);
+        let y = eight_bytes(b, i);
+        if x != y {
+            return i;
+        }
+        i += 8;
+    }
+    i
+}
+
 // The first place at which a and b differ, or where the shorter ends.
 fn mismatch(a: &[u8], b: &[u8]) -> usize
     ensures { λ r. ⌜ Differ (now (a .entry)) (now (b .entry)) r ⌝ }
 {
     let n = least(a.len(), b.len());
-    let mut i = 0;
+    let mut i = stretch(a, b, n);
     while i < n {
         if a[i] != b[i] {
             return i;

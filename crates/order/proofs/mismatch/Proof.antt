@@ -19,6 +19,7 @@ mismatch-spec =
     Inv-loop
     μ-loop
     (λ c κs. search (needs, strings))
+    (λ c κs. search (needs, strings))
     (λ c. search (needs, strings))
     (λ c. search (needs, strings))
     (λ c. search (needs, strings))
