@@ -152,7 +152,7 @@ fn empty_at(h: Start, s: &[u8], f: usize) -> usize
     end_at(h, s, f - 1)
 }
 
-fn on_disk(p: Parsed) -> bool
+pub fn on_disk(p: Parsed) -> bool
     ensures { λ r. ⌜ r ≡ onDisk p ⌝ }
 {
     match p {

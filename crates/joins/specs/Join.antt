@@ -9,7 +9,8 @@ use Rattle.octets.specs.declared.Seps.the-variants.{Unix, Windows, Verbatim as 
 use Rattle.prefixes.specs.declared.Parsed.{Parsed}
 use Rattle.prefixes.specs.declared.Parsed.the-variants.{Nothing, Is}
 use Rattle.prefixes.specs.Prefix.{prefixIn, endOfPrefix}
-use Rattle.components.specs.List.{isDisk, hasRoot, isAbsolute}
+use Rattle.components.specs.List.{hasRoot, isAbsolute}
+use Rattle.cursors.specs.Rest.{onDisk}
 use Rattle.seams.specs.Seam.{sepOf, wants}
 use Rattle.verbatim.specs.Verbatim.{verbatimIn, verbatimJoin}
 
@@ -28,12 +29,8 @@ unfoldable pub mended : Seps → List ℕ → List ℕ → Bool
 mended k p q = cond (eqb (length q) 0) false (verbatimIn (prefixIn k p))
 
 -- p "is .. merely a Disk prefix"
-abbrev pub diskIn : Parsed → Bool
-diskIn Nothing = false
-diskIn (Is p) = isDisk p
-
 unfoldable pub mereDisk : Seps → List ℕ → Bool
-mereDisk k p = cond (diskIn (prefixIn k p)) (eqb (endOfPrefix (prefixIn k p)) (length p)) false
+mereDisk k p = cond (onDisk (prefixIn k p)) (eqb (endOfPrefix (prefixIn k p)) (length p)) false
 
 -- 4. "if p is nonempty, does not end in a separator of the mode (Windows: either one, for a verbatim p too) and is not merely a Disk prefix"
 unfoldable pub parted : Seps → List ℕ → Bool

@@ -18,12 +18,15 @@ use Rattle.answers.specs.Outcome.{result}
 use Rattle.answers.specs.Written.{Wrote}
 use Rattle.prefixes.specs.declared.Parsed.{Parsed}
 use Rattle.prefixes.specs.declared.Parsed.the-variants.{Nothing, Is}
-use Rattle.prefixes.specs.Prefix.{prefixIn, endOfPrefix}
-use Rattle.prefixes.specs.Laws.{end-within}
-use Rattle.components.specs.List.{sepAt, dotAt, dirOf, startOf, hasRoot, isAbsolute}
+use Rattle.prefixes.specs.Prefix.{prefixIn}
+use Rattle.components.specs.declared.Start.{Start}
+use Rattle.components.specs.List.{sepAt, dotAt, dirOf, startOf, isRoot, hasRoot, isAbsolute}
+use Rattle.components.specs.Leaves.{OpenAt}
+use Rattle.cursors.specs.Rest.{onDisk}
 use Rattle.seams.specs.Seam.{sepOf, wants, glued, seamed}
 use Rattle.verbatim.specs.Verbatim.{verbatimIn, verbatimJoin}
-use Rattle.joins.specs.Join.{hasPrefix, replaced, mended, diskIn, mereDisk, parted, joined}
+use Rattle.joins.specs.Join.{hasPrefix, replaced, mended, mereDisk, parted, joined}
+use Rattle.joins.specs.Leaves.{replacedBy, mendedBy, mereBy, partedBy, behind}
 
 -- ---- in Unix mode no path has a prefix, and join is one path set behind another
 unix-root : (q : List ℕ) → hasRoot Unix q ≡ sepAt Unix q 0
@@ -40,109 +43,140 @@ joined-unix p q =
     (λ n. rw n (split (wants Unix p) (λ w. rw w) (λ w. rw w)))
     (λ n. rw n (split (wants Unix p) (λ w. rw w) (λ w. rw w))))))
 
--- `replaces`, `mends`
-module _ (k : Seps) (q : List ℕ) where
-  pub replaced-unix : (r : Bool) → k ≡ Unix → r ≡ isAbsolute Unix q → r ≡ replaced k q
-  replaced-unix r e f = f ∙ rw e
+-- ---- join's tests are told by where the paths start
+bare : (x : Parsed) → hasPrefix x ≡ false → x ≡ Nothing
+bare Nothing h = refl
+bare (Is x) h = absurd (false≢true (sym h))
 
-  pub replaced-windows : (p : Parsed) (r : Bool) → k ≡ Windows → p ≡ prefixIn Windows q → r ≡ hasPrefix p → r ≡ replaced k q
-  replaced-windows p r e g f = f ∙ rw (g, e)
+-- case 1, and where it does not apply case 3
+start-root : (k : Seps) (q : List ℕ) → prefixIn k q ≡ Nothing → hasRoot k q ≡ isRoot (startOf k q .dir)
+unfolding hasRoot
+start-root k q e = rw e (split (isRoot (startOf k q .dir)) (λ d. rw d) (λ d. rw d))
 
-  pub replaced-other : (r : Bool) → k ≡ OnlyBack → r ≡ isAbsolute OnlyBack q → r ≡ replaced k q
-  replaced-other r e f = f ∙ rw e
+start-replaced : (k : Seps) (q : List ℕ) → replaced k q ≡ replacedBy k (startOf k q)
+unfolding isAbsolute startOf
+start-replaced Unix q = start-root Unix q refl
+start-replaced Windows q = refl
+start-replaced OnlyBack q = start-root OnlyBack q refl
 
-  module _ (p : List ℕ) where
-    pub mended-empty : length q ≡ 0 → false ≡ mended k p q
-    unfolding mended
-    mended-empty e = rw (eq-eqb (length q) 0 e)
-
-    pub mended-is : (x : Parsed) (r : Bool) → (length q ≡ 0 → ⊥) → x ≡ prefixIn k p → r ≡ verbatimIn x → r ≡ mended k p q
-    unfolding mended
-    mended-is x r n e f = f ∙ rw (ne-eqb (length q) 0 n, e)
-
--- `join_root`: e is where p's prefix ends
-module _ (k : Seps) (p : List ℕ) (x : Parsed) (f : x ≡ prefixIn k p) where
-  pub end-in : endOfPrefix x ≤ length p
-  end-in = end-within k p x f
-
-  module _ (e : ℕ) (g : e ≡ endOfPrefix x) where
-    pub end-low : e ≤ length p
-    end-low = omega (arith, end-in)
-
-    pub root-small : (q : List ℕ) → length p ≤ limit → length q ≤ limit → 0 + length (take (e - 0) p) + length q < 2 ^ 64
-    root-small q a b = rw (sub-zero, length-take-le e p end-low) (omega (arith, end-low))
-
-    pub root-done : (q : List ℕ) (a : View) (b after : List ℕ) → Wrote (result (take (e - 0) p ++ q)) a b after → Wrote (result (take (endOfPrefix (prefixIn k p)) p ++ q)) a b after
-    root-done q a b after w = rw (← f, ← g) (rw sub-zero at w)
-
-  -- `is_mere_drive`
-  module _ (d : Bool) (h : d ≡ diskIn x) where
-    pub mere-not : d ≡ false → false ≡ mereDisk k p
-    unfolding mereDisk
-    mere-not y = rw (← f, ← h, y)
-
-    pub mere-is : (e : ℕ) → d ≡ true → e ≡ endOfPrefix x → eqb e (length p) ≡ mereDisk k p
-    unfolding mereDisk
-    mere-is e y g = rw (← f, ← h, y, g)
-
--- `parts_from`
-module _ (k : Seps) (p : List ℕ) (d : Bool) (h : d ≡ mereDisk k p) where
-  pub parted-mere : d ≡ true → false ≡ parted k p
-  unfolding parted
-  parted-mere y = rw (← h, y)
-
-  pub parted-wants : (r : Bool) → d ≡ false → r ≡ wants k p → r ≡ parted k p
-  unfolding parted
-  parted-wants r y f = f ∙ rw (← h, y)
-
-pub ruleset tests = (replaced-unix, replaced-windows, replaced-other, mended-empty, mended-is, end-in, end-low, root-small, root-done, mere-not, mere-is, parted-mere, parted-wants)
-
--- `join_in`: r, m, h, d are what the tests answered
-windows-bare : (x : Parsed) → hasPrefix x ≡ false → x ≡ Nothing
-windows-bare Nothing h = refl
-windows-bare (Is x) h = absurd (false≢true (sym h))
+start-rooted : (k : Seps) (q : List ℕ) → replacedBy k (startOf k q) ≡ false → hasRoot k q ≡ isRoot (startOf k q .dir)
+unfolding startOf
+start-rooted Unix q h = start-root Unix q refl
+start-rooted Windows q h = start-root Windows q (bare (prefixIn Windows q) h)
+start-rooted OnlyBack q h = start-root OnlyBack q refl
 
 -- a verbatim p is a Windows path, and then q has no prefix
-mended-windows : (k : Seps) (p q : List ℕ) → mended k p q ≡ true → (k ≡ Windows) × (verbatimIn (prefixIn k p) ≡ true)
-unfolding mended
-mended-windows k p q h = split (eqb (length q) 0) (λ e. absurd (false≢true (rw e at h))) (λ e. go k (rw e at h))
-  where
-    go : (k : Seps) → verbatimIn (prefixIn k p) ≡ true → (k ≡ Windows) × (verbatimIn (prefixIn k p) ≡ true)
-    go Unix h = absurd (false≢true h)
-    go Windows h = (refl, h)
-    go OnlyBack h = absurd (false≢true h)
+verbatim-windows : (k : Seps) (p : List ℕ) → verbatimIn (prefixIn k p) ≡ true → k ≡ Windows
+verbatim-windows Unix p h = absurd (false≢true h)
+verbatim-windows Windows p h = refl
+verbatim-windows OnlyBack p h = absurd (false≢true h)
 
-module _ (k : Seps) (p q : List ℕ) (r : Bool) (f : r ≡ replaced k q) where
-  module _ (a : View) (b after : List ℕ) where
+-- `mends`, `is_mere_drive`, `parts_from`
+module _ (g : Start) (q : List ℕ) where
+  pub mended-empty : length q ≡ 0 → false ≡ mendedBy g q
+  unfolding mendedBy
+  mended-empty e = rw (eq-eqb (length q) 0 e)
+
+  pub mended-is : (r : Bool) → (length q ≡ 0 → ⊥) → r ≡ verbatimIn (g .prefix) → r ≡ mendedBy g q
+  unfolding mendedBy
+  mended-is r n f = f ∙ rw (ne-eqb (length q) 0 n)
+
+  module _ (d : Bool) (h : d ≡ onDisk (g .prefix)) where
+    pub mere-not : d ≡ false → false ≡ mereBy g q
+    unfolding mereBy
+    mere-not y = rw (← h, y)
+
+    pub mere-is : d ≡ true → eqb (g .end) (length q) ≡ mereBy g q
+    unfolding mereBy
+    mere-is y = rw (← h, y)
+
+  module _ (k : Seps) (d : Bool) (h : d ≡ mereBy g q) where
+    pub parted-mere : d ≡ true → false ≡ partedBy k g q
+    unfolding partedBy
+    parted-mere y = rw (← h, y)
+
+    pub parted-wants : (r : Bool) → d ≡ false → r ≡ wants k q → r ≡ partedBy k g q
+    unfolding partedBy
+    parted-wants r y f = f ∙ rw (← h, y)
+
+-- `join_root`, `join_behind`
+module _ (p q : List ℕ) (a : View) (b after : List ℕ) where
+  pub root-done : (e : ℕ) → Wrote (result (take (e - 0) p ++ q)) a b after → Wrote (result (take e p ++ q)) a b after
+  root-done e w = rw sub-zero at w
+
+  module _ (k : Seps) (d : Bool) where
+    pub behind-parted : (c : ℕ) → d ≡ true → c ≡ sepOf k → Wrote (result (p ++ (c ∷ []) ++ q)) a b after → Wrote (result (behind k p d q)) a b after
+    unfolding behind
+    behind-parted c o e w = rw (o, ← e) w
+
+    pub behind-close : d ≡ false → Wrote (result (p ++ q)) a b after → Wrote (result (behind k p d q)) a b after
+    unfolding behind
+    behind-close o w = rw o w
+
+pub root-small : (p q : List ℕ) (e : ℕ) → e ≤ length p → length p ≤ limit → length q ≤ limit → 0 + length (take (e - 0) p) + length q < 2 ^ 64
+root-small p q e h a b = rw (sub-zero, length-take-le e p h) (omega arith)
+
+pub ruleset tests = (mended-empty, mended-is, mere-not, mere-is, parted-mere, parted-wants, root-done, root-small, behind-parted, behind-close)
+
+-- `join_unix`
+module _ (p q : List ℕ) (a : View) (b after : List ℕ) (r : Bool) (f : r ≡ sepAt Unix q 0) where
+  pub unix-whole : r ≡ true → Wrote (result q) a b after → Wrote (result (seamed Unix p q)) a b after
+  unfolding seamed
+  unix-whole y w = rw (← f, y) w
+
+  pub unix-behind : (d : Bool) → r ≡ false → d ≡ wants Unix p → Wrote (result (behind Unix p d q)) a b after → Wrote (result (seamed Unix p q)) a b after
+  unfolding seamed glued behind
+  unix-behind d y g w = rw (← f, y, ← g) (split d (λ t. rw t (rw t at w)) (λ t. rw t (rw t at w)))
+
+-- `join_any`: r, m, t, d are what the tests answered
+module _ (k : Seps) (p q : List ℕ) (g : Start) (o : OpenAt k p g) (m : Bool) (j : m ≡ mendedBy g q) where
+  mended-as : mended k p q ≡ m
+  unfolding mended mendedBy startOf
+  mended-as = sym (j ∙ rw (o .is))
+
+  verbatim-start : m ≡ true → verbatimIn (prefixIn k p) ≡ true
+  unfolding mended
+  verbatim-start z = split (eqb (length q) 0) (λ e. absurd (false≢true (rw e at (mended-as ∙ z)))) (λ e. rw e at (mended-as ∙ z))
+
+  pub join-verbatim : m ≡ true → verbatimIn (prefixIn Windows p) ≡ true
+  join-verbatim z = rw (verbatim-windows k p (verbatim-start z)) at (verbatim-start z)
+
+module _ (k : Seps) (q : List ℕ) (h : Start) (u : OpenAt k q h) (r : Bool) (f : r ≡ replacedBy k h) where
+  replaced-as : replaced k q ≡ r
+  replaced-as = start-replaced k q ∙ sym (f ∙ rw (u .is))
+
+  module _ (p : List ℕ) (a : View) (b after : List ℕ) where
     pub join-whole : r ≡ true → Wrote (result q) a b after → Wrote (result (joined k p q)) a b after
     unfolding joined
-    join-whole y w = rw (← f, y) w
+    join-whole y w = rw (replaced-as, y) w
 
-  module _ (y : r ≡ false) (m : Bool) (g : m ≡ mended k p q) where
-    module _ (z : m ≡ true) where
-      pub join-verbatim : verbatimIn (prefixIn Windows p) ≡ true
-      join-verbatim = let w = mended-windows k p q (sym g ∙ z) in rw (w .0) at (w .1)
-
-      pub join-bare : prefixIn Windows q ≡ Nothing
-      join-bare = let w = mended-windows k p q (sym g ∙ z) in windows-bare (prefixIn Windows q) (rw (w .0) at (sym f ∙ y))
+  module _ (y : r ≡ false) (p : List ℕ) (g : Start) (o : OpenAt k p g) (m : Bool) (j : m ≡ mendedBy g q) where
+    pub join-bare : m ≡ true → prefixIn Windows q ≡ Nothing
+    unfolding startOf
+    join-bare z = bare (prefixIn Windows q) (rw (verbatim-windows k p (verbatim-start k p q g o m j z)) at (sym (start-replaced k q) ∙ replaced-as ∙ y))
 
     module _ (a : View) (b after : List ℕ) where
       pub join-mended : m ≡ true → Wrote (result (verbatimJoin p q)) a b after → Wrote (result (joined k p q)) a b after
       unfolding joined
-      join-mended z w = rw (← f, y, ← g, z) w
+      join-mended z w = rw (replaced-as, y, mended-as k p q g o m j, z) w
 
-      module _ (z : m ≡ false) (h : Bool) (i : h ≡ hasRoot k q) where
-        pub join-rooted : h ≡ true → Wrote (result (take (endOfPrefix (prefixIn k p)) p ++ q)) a b after → Wrote (result (joined k p q)) a b after
-        unfolding joined
-        join-rooted n w = rw (← f, y, ← g, z, ← i, n) w
+      module _ (z : m ≡ false) (t : Bool) (i : t ≡ isRoot (h .dir)) where
+        rooted-as : hasRoot k q ≡ t
+        rooted-as = start-rooted k q (sym (start-replaced k q) ∙ replaced-as ∙ y) ∙ sym (i ∙ rw (u .is))
 
-        module _ (n : h ≡ false) (d : Bool) (j : d ≡ parted k p) where
-          pub join-parted : (c : ℕ) → d ≡ true → c ≡ sepOf k → Wrote (result (p ++ (c ∷ []) ++ q)) a b after → Wrote (result (joined k p q)) a b after
-          unfolding joined
-          join-parted c o e w = rw (← f, y, ← g, z, ← i, n, ← j, o, ← e) w
+        pub join-rooted : t ≡ true → Wrote (result (take (g .end) p ++ q)) a b after → Wrote (result (joined k p q)) a b after
+        unfolding joined startOf
+        join-rooted n w = rw (replaced-as, y, mended-as k p q g o m j, z, rooted-as, n) (rw (o .is) at w)
 
-          pub join-behind : d ≡ false → Wrote (result (p ++ q)) a b after → Wrote (result (joined k p q)) a b after
-          unfolding joined
-          join-behind o w = rw (← f, y, ← g, z, ← i, n, ← j, o) w
+        pub join-behind : (d : Bool) → t ≡ false → d ≡ partedBy k g p → Wrote (result (behind k p d q)) a b after → Wrote (result (joined k p q)) a b after
+        unfolding joined behind parted partedBy mereDisk mereBy startOf
+        join-behind d n e w = rw (replaced-as, y, mended-as k p q g o m j, z, rooted-as, n) (rw (o .is) at (rw e at w))
 
-pub ruleset joins = (join-whole, join-verbatim, join-bare, join-mended, join-rooted, join-parted, join-behind)
+  pub root-in : (p : List ℕ) (g : Start) → OpenAt k p g → g .end ≤ length p
+  root-in p g o = omega (arith, o .low, o .high)
+
+-- `join_in`
+pub join-unix : (k : Seps) (p q : List ℕ) (a : View) (b after : List ℕ) → k ≡ Unix → Wrote (result (seamed Unix p q)) a b after → Wrote (result (joined k p q)) a b after
+join-unix k p q a b after e w = rw (e, joined-unix p q) w
+
+pub ruleset joins = (unix-whole, unix-behind, join-whole, join-verbatim, join-bare, join-mended, join-rooted, join-behind, root-in, join-unix)

@@ -1,3 +1,4 @@
 pub mod Join
+pub mod Leaves
 pub mod Laws
 pub mod Examples

@@ -1,18 +1,19 @@
-// Join of two paths by a set of separators: document 01's four cases, the first that applies.
+// Join of two paths by a set of separators: document 01's four cases, the first that applies. Each path's start is read once.
 use answers::View;
+use components::Start;
 use octets::Seps;
 use prefixes::Parsed;
-use prefixes::Prefix;
 ghost use mathlib.Core.Path.{_≡_};
 ghost use mathlib.Core.List.{_++_};
 ghost use Prim.Native.Nat.{_≤_};
 ghost use lib.ListN.{length, take};
 ghost use Rattle.octets.specs.Class.{limit};
+ghost use Rattle.octets.specs.declared.Seps.the-variants.{Unix};
 ghost use Rattle.answers.specs.Outcome.{result};
 ghost use Rattle.answers.specs.Written.{Wrote};
-ghost use Rattle.prefixes.specs.Prefix.{prefixIn, endOfPrefix};
-ghost use Rattle.components.specs.List.{isDisk};
-ghost use Rattle.joins.specs.Join.{hasPrefix, replaced, mended, diskIn, mereDisk, parted, joined};
+ghost use Rattle.seams.specs.Seam.{seamed};
+ghost use Rattle.joins.specs.Join.{hasPrefix, joined};
+ghost use Rattle.joins.specs.Leaves.{replacedBy, mendedBy, mereBy, partedBy, behind};
 
 fn has_prefix(p: Parsed) -> bool
     ensures { λ r. ⌜ r ≡ hasPrefix p ⌝ }
@@ -23,101 +24,111 @@ fn has_prefix(p: Parsed) -> bool
     }
 }
 
-// Case 1: whether q takes the place of p.
-fn replaces(k: Seps, q: &[u8]) -> bool
-    ensures { λ r. ⌜ r ≡ replaced k (now (q .entry)) ⌝ }
+// Case 1: whether a path that starts with h takes the place of the other.
+fn replaces(k: Seps, h: Start) -> bool
+    ensures { λ r. ⌜ r ≡ replacedBy k h ⌝ }
 {
+    let d = h.dir;
+    let p = h.prefix;
     match k {
-        Seps::Unix => components::is_absolute(Seps::Unix, q),
-        Seps::Windows => {
-            let p = prefixes::prefix_in(Seps::Windows, q);
-            has_prefix(p)
-        }
-        Seps::Verbatim => components::is_absolute(Seps::Verbatim, q),
+        Seps::Unix => components::is_root(d),
+        Seps::Windows => has_prefix(p),
+        Seps::Verbatim => components::is_root(d),
     }
 }
 
-// Case 2: whether q is laid onto a verbatim p.
-fn mends(k: Seps, p: &[u8], q: &[u8]) -> bool
-    ensures { λ r. ⌜ r ≡ mended k (now (p .entry)) (now (q .entry)) ⌝ }
+// Case 2: whether q is laid onto a path that starts with g, a verbatim one.
+fn mends(g: Start, q: &[u8]) -> bool
+    ensures { λ r. ⌜ r ≡ mendedBy g (now (q .entry)) ⌝ }
 {
     if q.len() == 0 {
         return false;
     }
-    let x = prefixes::prefix_in(k, p);
+    let x = g.prefix;
     verbatim::is_verbatim(x)
 }
 
-// Case 3: q behind p's prefix.
-fn join_root(k: Seps, p: &[u8], q: &[u8], out: &mut [u8]) -> View
-    requires { ⌜ (length (now p) ≤ limit) × (length (now q) ≤ limit) ⌝ }
-    ensures { λ r. ⌜ Wrote (result (take (endOfPrefix (prefixIn k (now (p .entry)))) (now (p .entry)) ++ now (q .entry))) r (now (out .entry)) (now (out .exit)) ⌝ }
+// Case 3: q behind p's prefix, which ends at e.
+fn join_root(p: &[u8], e: usize, q: &[u8], out: &mut [u8]) -> View
+    requires { ⌜ (length (now p) ≤ limit) × (length (now q) ≤ limit) × (e ≤ length (now p)) ⌝ }
+    ensures { λ r. ⌜ Wrote (result (take e (now (p .entry)) ++ now (q .entry))) r (now (out .entry)) (now (out .exit)) ⌝ }
 {
-    let x = prefixes::prefix_in(k, p);
-    let e = prefixes::end_of(x, p);
     buffers::lay(b"", &p[0..e], q, out)
 }
 
-fn is_drive(p: Prefix) -> bool
-    ensures { λ r. ⌜ r ≡ isDisk p ⌝ }
+// Whether p, which starts with g, is merely a Disk prefix.
+fn is_mere_drive(g: Start, p: &[u8]) -> bool
+    ensures { λ r. ⌜ r ≡ mereBy g (now (p .entry)) ⌝ }
 {
-    match p {
-        Prefix::Verbatim(_) => false,
-        Prefix::VerbatimUnc(_) => false,
-        Prefix::VerbatimDisk(_) => false,
-        Prefix::DeviceNs(_) => false,
-        Prefix::Unc(_) => false,
-        Prefix::Disk(_) => true,
-    }
-}
-
-fn has_drive(p: Parsed) -> bool
-    ensures { λ r. ⌜ r ≡ diskIn p ⌝ }
-{
-    match p {
-        Parsed::Nothing => false,
-        Parsed::Is(q) => is_drive(q),
-    }
-}
-
-// Whether p is merely a Disk prefix.
-fn is_mere_drive(k: Seps, p: &[u8]) -> bool
-    ensures { λ r. ⌜ r ≡ mereDisk k (now (p .entry)) ⌝ }
-{
-    let x = prefixes::prefix_in(k, p);
-    if has_drive(x) {
-        let e = prefixes::end_of(x, p);
+    let x = g.prefix;
+    let e = g.end;
+    if cursors::on_disk(x) {
         return e == p.len();
     }
     false
 }
 
-// Case 4: whether a separator goes between p and q.
-fn parts_from(k: Seps, p: &[u8]) -> bool
-    ensures { λ r. ⌜ r ≡ parted k (now (p .entry)) ⌝ }
+// Case 4: whether a separator goes between p, which starts with g, and q.
+fn parts_from(k: Seps, g: Start, p: &[u8]) -> bool
+    ensures { λ r. ⌜ r ≡ partedBy k g (now (p .entry)) ⌝ }
 {
-    if is_mere_drive(k, p) {
+    if is_mere_drive(g, p) {
         return false;
     }
     seams::wants_sep(k, p)
+}
+
+// Case 4: q behind p, and a separator between the two or none.
+fn join_behind(k: Seps, p: &[u8], apart: bool, q: &[u8], out: &mut [u8]) -> View
+    requires { ⌜ (length (now p) ≤ limit) × (length (now q) ≤ limit) ⌝ }
+    ensures { λ r. ⌜ Wrote (result (behind k (now (p .entry)) apart (now (q .entry)))) r (now (out .entry)) (now (out .exit)) ⌝ }
+{
+    if apart {
+        let one = [seams::sep_of(k)];
+        return buffers::lay(p, &one, q, out);
+    }
+    buffers::lay(b"", p, q, out)
+}
+
+// In Unix mode no path has a prefix: two bytes decide.
+fn join_unix(p: &[u8], q: &[u8], out: &mut [u8]) -> View
+    requires { ⌜ (length (now p) ≤ limit) × (length (now q) ≤ limit) ⌝ }
+    ensures { λ r. ⌜ Wrote (result (seamed Unix (now (p .entry)) (now (q .entry)))) r (now (out .entry)) (now (out .exit)) ⌝ }
+{
+    if components::sep_at(Seps::Unix, q, 0) {
+        return buffers::lay(b"", b"", q, out);
+    }
+    let apart = seams::wants_sep(Seps::Unix, p);
+    join_behind(Seps::Unix, p, apart, q, out)
+}
+
+fn join_any(k: Seps, p: &[u8], q: &[u8], out: &mut [u8]) -> View
+    requires { ⌜ (length (now p) ≤ limit) × (length (now q) ≤ limit) ⌝ }
+    ensures { λ r. ⌜ Wrote (result (joined k (now (p .entry)) (now (q .entry)))) r (now (out .entry)) (now (out .exit)) ⌝ }
+{
+    let h = components::begin(k, q);
+    if replaces(k, h) {
+        return buffers::lay(b"", b"", q, out);
+    }
+    let g = components::begin(k, p);
+    if mends(g, q) {
+        return verbatim::join(p, q, out);
+    }
+    let d = h.dir;
+    if components::is_root(d) {
+        return join_root(p, g.end, q, out);
+    }
+    let apart = parts_from(k, g, p);
+    join_behind(k, p, apart, q, out)
 }
 
 pub fn join_in(k: Seps, p: &[u8], q: &[u8], out: &mut [u8]) -> View
     requires { ⌜ (length (now p) ≤ limit) × (length (now q) ≤ limit) ⌝ }
     ensures { λ r. ⌜ Wrote (result (joined k (now (p .entry)) (now (q .entry)))) r (now (out .entry)) (now (out .exit)) ⌝ }
 {
-    if replaces(k, q) {
-        return buffers::lay(b"", b"", q, out);
+    match k {
+        Seps::Unix => join_unix(p, q, out),
+        Seps::Windows => join_any(k, p, q, out),
+        Seps::Verbatim => join_any(k, p, q, out),
     }
-    if mends(k, p, q) {
-        return verbatim::join(p, q, out);
-    }
-    if components::has_root(k, q) {
-        return join_root(k, p, q, out);
-    }
-    if parts_from(k, p) {
-        let one = [seams::sep_of(k)];
-        return buffers::lay(p, &one, q, out);
-    }
-    buffers::lay(b"", p, q, out)
 }

@@ -8,7 +8,5 @@ is-mere-drive-spec =
     tie.close
     (tie.spec
     (λ c κs. search (needs, tests))
-    (λ c κs. search (needs, tests))
-    (λ c κs. search (needs, tests))
     (λ c. search (needs, tests))
     (λ c. search (needs, tests)))

@@ -7,8 +7,6 @@ pub join-root-spec : {M : Type 1} → statement M
 join-root-spec =
     tie.close
     (tie.spec
-    (λ c κs. search (needs, tests))
-    (λ c κs. search (needs, tests))
     (λ c. search (needs, tests))
     (λ c. search (needs, tests))
     (λ c. search (needs, tests))

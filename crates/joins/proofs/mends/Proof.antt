@@ -9,5 +9,4 @@ mends-spec =
     (tie.spec
     (λ c. search (needs, tests))
     (λ c κs. search (needs, tests))
-    (λ c κs. search (needs, tests))
     (λ c. search (needs, tests)))
