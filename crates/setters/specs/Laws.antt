@@ -1,6 +1,6 @@
 -- Laws of the setters: one a way through each function.
 use Prim.Native.Nat.{ℕ, _+_, _-_, _*_, _^_, _<_, _≤_}
-use native.Mathlib.Nat.{sub-zero}
+use native.Mathlib.Nat.{sub-zero, add-sub-of-le}
 use mir.Syntax.{w64}
 use mir.Val.{Fits}
 use native.Mathlib.Omega.{arith}
@@ -31,53 +31,25 @@ use Rattle.parts.specs.Elements.{nthBackOf}
 use Rattle.parts.specs.Steps.{lift, raised}
 use Rattle.components.specs.List.{listOf}
 use Rattle.joins.specs.Join.{joined}
-use Rattle.views.specs.Views.{leavesKind, leaves, isNormal, named, lastName, restBack, parentOf, onItem, ofName, stemSeen, fileStemOf}
-use Rattle.views.specs.Leaves.{ViewAt, NameAt}
+use Rattle.views.specs.Views.{lastName, restBack, onItem, ofName, fileStemOf}
+use Rattle.views.specs.Leaves.{NameAt, beforeName, BaseAt, StemAt}
+use Rattle.views.specs.Laws.{name-ends}
 use Rattle.setters.specs.Set.{isNamed, baseOf, holds, pointed, onView, extended}
-use Rattle.setters.specs.Leaves.{BaseAt, holdsFrom}
-
--- a last component that is a name has a parent before it
-named-leaves : (i : Item) (p : Element) → named i ≡ Here p → leaves i ≡ true
-named-leaves Missing p e = let z : _≡_ {A = ℕ} 0 1 = cc in absurd (omega arith)
-named-leaves (Here q) p e = go (q .component) refl
-  where
-    go : (c : Component) → q .component ≡ c → leavesKind (q .component) ≡ true
-    go (Prefix x) f = let g = rw f at e in let z : _≡_ {A = ℕ} 0 1 = cc in absurd (omega arith)
-    go RootDir f = let g = rw f at e in let z : _≡_ {A = ℕ} 0 1 = cc in absurd (omega arith)
-    go CurDir f = rw f
-    go ParentDir f = rw f
-    go Normal f = rw f
-
--- `base_len`
-module _ (k : Seps) (p : List ℕ) (n : Piece) (a : NameAt k p n) where
-  pub base-whole : n ≡ Nothing → BaseAt k p (length p)
-  unfolding baseOf
-  base-whole e =
-      let i : lastName k p ≡ Missing = sym (a .is) ∙ rw e in
-      record { is = rw i (take-length p); high = omega arith }
-
-  module _ (q : Part) (e : n ≡ Found q) where
-    name-of : lastName k p ≡ Here (lift q)
-    name-of = sym (a .is) ∙ rw e
-
-    parent-of : told refusedView (parentOf k p) ≡ restBack k p 1
-    unfolding parentOf told guard lastName
-    parent-of = rw (named-leaves (nthBackOf (listOf k p) 0) (lift q) name-of)
-
-    pub base-parent : (v : View) → ViewAt (parentOf k p) p v → BaseAt k p (v .len)
-    unfolding baseOf
-    base-parent v w =
-        let f : v ≡ restBack k p 1 = w .is ∙ parent-of in
-        record { is = rw (name-of, f); high = omega (arith, w .inside) }
+use Rattle.setters.specs.Leaves.{holdsFrom}
 
 -- `set_file_name_in`
+base-is : (p : List ℕ) (r a : ℕ) (i : Item) → r ≡ beforeName i a (length p) → take r p ≡ cond (isNamed i) (take a p) p
+base-is p r a Missing e = rw e (take-length p)
+base-is p r a (Here x) e = rw e
+
 module _ (k : Seps) (p q : List ℕ) (r : ℕ) (b : BaseAt k p r) where
   pub base-short : length p ≤ limit → length (take r p) ≤ limit
-  base-short h = omega (arith, length-take-le r p (b .high), b .high)
+  base-short h = omega (arith, length-take-le r p (b .inside), b .inside)
 
   -- the part `&p[0..r]` is `take (r - 0) p`
   pub set-is : (a : View) (x y : List ℕ) → Wrote (result (joined k (take (r - 0) p) q)) a x y → Wrote (result (joined k (baseOf k p) q)) a x y
-  set-is a x y w = rw (sub-zero, b .is) at w
+  unfolding baseOf
+  set-is a x y w = rw (sub-zero, base-is p r (restBack k p 1 .len) (lastName k p) (b .is)) at w
 
 -- `holds_sep`
 module _ (sep : ℕ → Bool) (e : List ℕ) where
@@ -122,24 +94,25 @@ module _ (k : Seps) (p e : List ℕ) (b : Bool) (t : b ≡ holds (isSep k) e) wh
         let i : lastName k p ≡ Missing = sym (w .is) ∙ rw g in
         rw (← t, m, i, f) refused
 
-    module _ (q : Part) (g : n ≡ Found q) (v : View) (s : ViewAt (fileStemOf k p) p v) where
-      stem-of : fileStemOf k p ≡ result v
-      unfolding ofName stemSeen told
-      stem-of =
-          let i : lastName k p ≡ Here (lift q) = sym (w .is) ∙ rw g in
-          rw i (ap (λ (z : View). result z) (sym (rw i at (s .is))))
+    module _ (q : Part) (g : n ≡ Found q) where
+      pub stem-in : q .start + q .len ≤ length p
+      stem-in = name-ends k p n w q g
 
-      pub stem-fits : length p ≤ limit → Fits w64 (v .start + v .len)
-      stem-fits h = record { fits = omega (arith, s .inside) }
+      module _ (r : ℕ) (s : StemAt p q r) where
+        stem-of : fileStemOf k p ≡ result (seen (q .start) (r - q .start))
+        unfolding ofName
+        stem-of =
+            let i : lastName k p ≡ Here (lift q) = sym (w .is) ∙ rw g in
+            rw i (s .is)
 
-      pub stem-inside : v .start + v .len ≤ length p
-      stem-inside = s .inside
+        pub stem-inside : r ≤ length p
+        stem-inside = omega (arith, s .high, stem-in)
 
-      pub stem-short : length p ≤ limit → length (take (v .start + v .len) p) ≤ limit
-      stem-short h = omega (arith, length-take-le (v .start + v .len) p (s .inside), s .inside)
+        pub stem-short : length p ≤ limit → length (take (r - 0) p) ≤ limit
+        stem-short h = rw sub-zero (omega (arith, length-take-le r p stem-inside, stem-inside))
 
-      pub extension-set : (a : View) (x y : List ℕ) → Wrote (result (pointed (take (v .start + v .len - 0) p) e)) a x y → Wrote (extended k p e) a x y
-      unfolding extended guard
-      extension-set a x y o = rw (← t, m, stem-of) (rw sub-zero at o)
+        pub extension-set : (a : View) (x y : List ℕ) → Wrote (result (pointed (take (r - 0) p) e)) a x y → Wrote (extended k p e) a x y
+        unfolding extended guard
+        extension-set a x y o = rw (← t, m, stem-of, add-sub-of-le (s .low)) (rw sub-zero at o)
 
-pub ruleset setting = (base-whole, base-parent, base-short, set-is, holds-start, holds-not, holds-here, holds-on, put-none, put-some, name-refused, stem-absent, stem-fits, stem-inside, stem-short, extension-set)
+pub ruleset setting = (base-short, set-is, holds-start, holds-not, holds-here, holds-on, put-none, put-some, name-refused, stem-absent, stem-in, stem-inside, stem-short, extension-set)

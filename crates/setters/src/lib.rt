@@ -11,27 +11,12 @@ ghost use Rattle.answers.specs.Outcome.{result};
 ghost use Rattle.answers.specs.Written.{Wrote};
 ghost use Rattle.joins.specs.Join.{joined};
 ghost use Rattle.setters.specs.Set.{holds, baseOf, pointed, extended};
-ghost use Rattle.setters.specs.Leaves.{BaseAt};
-
-// How many bytes of p stand before its file name: those of its parent, or all where it has no name.
-fn base_len(k: Seps, p: &[u8]) -> usize
-    ensures { λ r. ⌜ BaseAt k (now (p .entry)) r ⌝ }
-{
-    let n = views::name_part(k, p);
-    match n {
-        Piece::Nothing => p.len(),
-        Piece::Found(_) => {
-            let v = views::parent(k, p);
-            v.len
-        }
-    }
-}
 
 pub fn set_file_name_in(k: Seps, p: &[u8], q: &[u8], out: &mut [u8]) -> View
     requires { ⌜ (length (now p) ≤ limit) × (length (now q) ≤ limit) ⌝ }
     ensures { λ r. ⌜ Wrote (result (joined k (baseOf k (now (p .entry))) (now (q .entry)))) r (now (out .entry)) (now (out .exit)) ⌝ }
 {
-    let e = base_len(k, p);
+    let e = views::base_len(k, p);
     joins::join_in(k, &p[0..e], q, out)
 }
 
@@ -59,9 +44,8 @@ pub fn set_extension_in(k: Seps, p: &[u8], e: &[u8], out: &mut [u8]) -> View
     let n = views::name_part(k, p);
     match n {
         Piece::Nothing => answers::refuse_view(Reply::Absent),
-        Piece::Found(_) => {
-            let v = views::file_stem(k, p);
-            let end = v.start + v.len;
+        Piece::Found(q) => {
+            let end = views::stem_end(p, q);
             put_extension(&p[0..end], e, out)
         }
     }

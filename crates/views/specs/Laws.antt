@@ -45,7 +45,7 @@ use Rattle.views.specs.declared.Reached.{Reached}
 use Rattle.views.specs.declared.Reached.the-variants.{Body, Head}
 use Rattle.cursors.specs.Rest.{viewOf, span, onDisk, isBare, dotted, behindDot, leftEnd, emptyAt, restOf}
 use Rattle.views.specs.Views.{leavesKind, leaves, climbs, restBack, parentOf, ancestorOf, isNormal, named, lastName, hasDot, lastDot, ofName, wholeSeen, stemSeen, extensionSeen}
-use Rattle.views.specs.Leaves.{cutOf, upBy, ViewAt, CutAt, leftOf, Steps, ClimbAt, headUp, isName, NameAt, dotIn, DotAt}
+use Rattle.views.specs.Leaves.{cutOf, upBy, ViewAt, CutAt, leftOf, Steps, ClimbAt, headUp, isName, NameAt, BaseAt, dotIn, DotAt, StemAt}
 
 -- ---- steps back from a list
 
@@ -351,16 +351,30 @@ module _ (k : Seps) (s : List ℕ) (r : View) where
   unfolding parentOf restBack climbs
   parent-is a = rw (up-rest (listOf k s) 1 (dotted (startOf k s) s)) at a
 
+  module _ (h : Start) (o : OpenAt k s h) (p : Piece) (f : LastAt (isSep (h .seps)) (dots (h .seps)) s (h .at) (length s) p) where
+    abbrev body : List Element
+    body = within (isSep (h .seps)) (dots (h .seps)) s (h .at) (length s)
+
+    pub parent-head : p ≡ None → r ≡ told refusedView (headUp (h .dir) 1) → ViewAt (parentOf k s) s r
+    parent-head g e = parent-is (up-head k s h o 1 (Head 1) (climb-head (isSep (h .seps)) (dots (h .seps)) s (h .at) (length s) 1 1 (steps-start body 1) p f (omega arith) g) 1 r refl e)
+
   module _ (n : ℕ) where
     pub ancestor-up : (n ≡ 0 → ⊥) → ViewAt (upBy (dotted (startOf k s) s) (listOf k s) n) s r → ViewAt (ancestorOf n k s) s r
     unfolding ancestorOf restBack
     ancestor-up h a = rw (ne-eqb n 0 h) (rw (up-rest (listOf k s) n (dotted (startOf k s) s)) at a)
 
+pub parent-part : (k : Seps) (s : List ℕ) (h : Start) (o : OpenAt k s h) (p : Piece) (f : LastAt (isSep (h .seps)) (dots (h .seps)) s (h .at) (length s) p) (q : Part) (n : ℕ) → p ≡ Found q → CutAt (dotted h s) (leftOf h s (q .start)) s n → ViewAt (parentOf k s) s (seen 0 n)
+parent-part k s h o p f q n g t =
+    let sep = isSep (h .seps) in
+    let v = dots (h .seps) in
+    let on = climb-on sep v s (h .at) (length s) 1 1 (steps-start (within sep v s (h .at) (length s)) 1) p f (omega arith) q g in
+    parent-is k s (seen 0 n) (up-body k s h o 1 (Body (q .start)) (climb-body sep v s (h .at) (q .start) 1 0 on (omega arith) (omega (arith, last-found f g .high))) (q .start) n refl t)
+
 pub ancestor-whole : (k : Seps) (s : List ℕ) (n : ℕ) → n ≡ 0 → ViewAt (ancestorOf n k s) s (seen 0 (length s))
 unfolding ancestorOf told
 ancestor-whole k s n h = record { is = rw h; inside = omega arith }
 
-pub ruleset climbing = (back-inside, steps-start, climb-body, climb-head, climb-on, climb-in, head-fits, head-dot, head-plain, before-none, before-fits, before-part, up-fixed, up-lone, up-long, up-body, up-head, parent-is, ancestor-up, ancestor-whole)
+pub ruleset climbing = (back-inside, steps-start, climb-body, climb-head, climb-on, climb-in, head-fits, head-dot, head-plain, before-none, before-fits, before-part, up-fixed, up-lone, up-long, up-body, up-head, parent-head, parent-part, ancestor-up, ancestor-whole)
 
 -- ---- `name_part`
 
@@ -399,6 +413,20 @@ module _ (k : Seps) (s : List ℕ) (h : Start) (o : OpenAt k s h) (p : Piece) (f
     pub name-not : b ≡ false → NameAt k s None
     unfolding lastName
     name-not y = record { is = rw (the-last, kind-named (q .kind), ← n, y); spans = tt }
+
+    -- `base_len`
+    pub base-name : (r : ℕ) → b ≡ true → CutAt (dotted h s) (leftOf h s (q .start)) s r → BaseAt k s r
+    unfolding parentOf told guard
+    base-name r y t =
+        let e : lastName k s ≡ Here (lift q) = sym (name-is y .is) in
+        let v : seen 0 r ≡ restBack k s 1 = rw (the-last, kind-leaves (q .kind)) at (parent-part k s h o p f q r g t .is) in
+        record { is = rw (e, ← v); inside = t .inside }
+
+    pub base-not : b ≡ false → BaseAt k s (length s)
+    base-not y = let e : lastName k s ≡ Missing = sym (name-not y .is) in record { is = rw e; inside = omega arith }
+
+  pub base-none : p ≡ None → BaseAt k s (length s)
+  base-none g = let e : lastName k s ≡ Missing = sym (name-none g .is) in record { is = rw e; inside = omega arith }
 
 -- ---- `last_dot`
 
@@ -449,6 +477,30 @@ module _ (s : List ℕ) (lo hi i : ℕ) (e : dotIn s lo hi ≡ dotIn s lo i) whe
       let z : i - lo ≡ 0 = omega arith in
       record { is = rw (e, z) (omega arith); low = omega arith; high = l; before = λ n. absurd (n refl) }
 
+-- ---- `stem_end`
+
+module _ (s : List ℕ) (q : Part) (d : ℕ) (t : DotAt s (q .start) (q .start + q .len) d) where
+  -- the dot's place in the name
+  place : d ≡ q .start + lastDot (take (q .len) (drop (q .start) s))
+  unfolding dotIn
+  place = rw (← add-sub-cancel-left (q .start) (q .len)) (t .is)
+
+  none : d ≡ q .start → lastDot (take (q .len) (drop (q .start) s)) ≡ 0
+  none z = omega (arith, place)
+
+  some : (d ≡ q .start → ⊥) → eqb (lastDot (take (q .len) (drop (q .start) s))) 0 ≡ false
+  some z = ne-eqb (lastDot (take (q .len) (drop (q .start) s))) 0 (λ y. z (omega (arith, place)))
+
+  pub stem-whole : d ≤ q .start → StemAt s q (q .start + q .len)
+  unfolding stemSeen
+  stem-whole z = record { is = rw (none (omega (arith, t .low)), add-sub-cancel-left); low = omega arith; high = omega arith }
+
+  pub stem-dot : q .start < d → StemAt s q d
+  unfolding stemSeen
+  stem-dot z =
+      let n : d - q .start ≡ lastDot (take (q .len) (drop (q .start) s)) = omega (arith, place) in
+      record { is = rw (some (λ y. omega arith), n); low = t .low; high = t .high }
+
 -- ---- the three views of a name
 
 pub name-absent : (f : List ℕ → Element → Outcome View) (k : Seps) (s : List ℕ) (p : Piece) (r : View) → NameAt k s p → p ≡ None → r ≡ refusedView Absent → ViewAt (ofName f k s) s r
@@ -473,34 +525,17 @@ module _ (k : Seps) (s : List ℕ) (p : Piece) (a : NameAt k s p) (q : Part) (g 
   unfolding wholeSeen told
   name-seen = record { is = rw (of-name wholeSeen); inside = name-ends }
 
-  module _ (d : ℕ) (t : DotAt s (q .start) (q .start + q .len) d) where
-    -- the dot's place in the name
-    place : d ≡ q .start + lastDot (take (q .len) (drop (q .start) s))
-    unfolding dotIn
-    place = rw (← add-sub-cancel-left (q .start) (q .len)) (t .is)
+  pub stem-is : (e : ℕ) → StemAt s q e → ViewAt (ofName stemSeen k s) s (seen (q .start) (e - q .start))
+  unfolding told
+  stem-is e t = record { is = rw (of-name stemSeen, t .is); inside = omega (arith, t .low, t .high, name-ends) }
 
+  module _ (d : ℕ) (t : DotAt s (q .start) (q .start + q .len) d) where
     pub dot-fits : Fits w64 (d + 1)
     dot-fits = let b = rw g at (a .spans) in record { fits = omega (arith, b) }
 
-    none : d ≡ q .start → lastDot (take (q .len) (drop (q .start) s)) ≡ 0
-    none z = omega (arith, place)
-
-    some : (d ≡ q .start → ⊥) → eqb (lastDot (take (q .len) (drop (q .start) s))) 0 ≡ false
-    some z = ne-eqb (lastDot (take (q .len) (drop (q .start) s))) 0 (λ y. z (omega (arith, place)))
-
-    pub stem-whole : d ≤ q .start → ViewAt (ofName stemSeen k s) s (seen (q .start) (q .len))
-    unfolding stemSeen told
-    stem-whole z = record { is = rw (of-name stemSeen, none (omega (arith, t .low))); inside = name-ends }
-
-    pub stem-dot : q .start < d → ViewAt (ofName stemSeen k s) s (seen (q .start) (d - q .start))
-    unfolding stemSeen told
-    stem-dot z =
-        let n : d - q .start ≡ lastDot (take (q .len) (drop (q .start) s)) = omega (arith, place) in
-        record { is = rw (of-name stemSeen, some (λ y. omega arith), n); inside = omega (arith, name-ends) }
-
     pub extension-none : d ≡ q .start → (r : View) → r ≡ refusedView Absent → ViewAt (ofName extensionSeen k s) s r
     unfolding extensionSeen told guard
-    extension-none z r e = record { is = e ∙ rw (of-name extensionSeen, none z); inside = rw e (omega arith) }
+    extension-none z r e = record { is = e ∙ rw (of-name extensionSeen, none s q d t z); inside = rw e (omega arith) }
 
     module _ (z : d ≡ q .start → ⊥) where
       pub dot-before : d + 1 ≤ q .start + q .len
@@ -509,7 +544,7 @@ module _ (k : Seps) (s : List ℕ) (p : Piece) (a : NameAt k s p) (q : Part) (g 
       pub extension-dot : ViewAt (ofName extensionSeen k s) s (seen (d + 1) (q .start + q .len - (d + 1)))
       unfolding extensionSeen told guard
       extension-dot =
-          let n : q .start + q .len - (d + 1) ≡ q .len - (lastDot (take (q .len) (drop (q .start) s)) + 1) = omega (arith, place) in
-          record { is = rw (of-name extensionSeen, some z, n) (rw place); inside = omega (arith, name-ends, dot-before) }
+          let n : q .start + q .len - (d + 1) ≡ q .len - (lastDot (take (q .len) (drop (q .start) s)) + 1) = omega (arith, place s q d t) in
+          record { is = rw (of-name extensionSeen, some s q d t z, n) (rw (place s q d t)); inside = omega (arith, name-ends, dot-before) }
 
-pub ruleset naming = (name-none, name-is, name-not, dot-here, dot-more, dot-out, name-absent, name-fits, name-ends, name-seen, stem-whole, extension-none, dot-before, dot-fits, stem-dot, extension-dot)
+pub ruleset naming = (name-none, name-is, name-not, dot-here, dot-more, dot-out, name-absent, name-fits, name-ends, name-seen, stem-is, stem-whole, extension-none, dot-before, dot-fits, stem-dot, extension-dot, base-name, base-not, base-none)

@@ -14,17 +14,20 @@ use Rattle.answers.specs.Outcome.{Outcome, refuse, result, told, present}
 use Rattle.parts.specs.declared.Element.{Element}
 use Rattle.parts.specs.declared.Kind.{Kind}
 use Rattle.parts.specs.declared.Kind.the-variants.{Dot, DotDot, Name}
+use Rattle.parts.specs.declared.Item.{Item}
+use Rattle.parts.specs.declared.Item.the-variants.{Missing, Here}
+use Rattle.parts.specs.declared.Part.{Part}
 use Rattle.parts.specs.declared.Piece.{Piece}
 use Rattle.parts.specs.Body.{dots}
 use Rattle.parts.specs.Elements.{nthBackOf, endOr}
-use Rattle.parts.specs.Steps.{raised, within, SpansBack}
+use Rattle.parts.specs.Steps.{lift, raised, within, SpansBack}
 use Rattle.components.specs.declared.Dir.{Dir}
 use Rattle.components.specs.declared.Dir.the-variants.{Bare, Root, Implied, Dot as Lone}
 use Rattle.components.specs.declared.Start.{Start}
 use Rattle.components.specs.List.{headList}
 use Rattle.views.specs.declared.Reached.{Reached}
 use Rattle.views.specs.declared.Reached.the-variants.{Body, Head}
-use Rattle.views.specs.Views.{climbs, lastName, lastDot}
+use Rattle.views.specs.Views.{climbs, restBack, lastName, lastDot, stemSeen}
 
 -- the right end of what remains after b steps back from l, where dot says whether a dot that is no component stands behind a drive
 unfoldable pub cutOf : Bool → List Element → ℕ → ℕ
@@ -75,6 +78,15 @@ pub record NameAt (k : Seps) (s : List ℕ) (r : Piece) : Type 0 where
   pub is : raised r ≡ lastName k s
   pub spans : SpansBack s 0 (length s) r
 
+-- r bytes stand before the file name: those of the parent, or all where there is no name
+abbrev pub beforeName : Item → ℕ → ℕ → ℕ
+beforeName Missing parent all = all
+beforeName (Here p) parent all = parent
+
+pub record BaseAt (k : Seps) (s : List ℕ) (r : ℕ) : Type 0 where
+  pub is : r ≡ beforeName (lastName k s) (restBack k s 1 .len) (length s)
+  pub inside : r ≤ length s
+
 -- the place of the last dot of the bytes lo to hi, counted from lo
 unfoldable pub dotIn : List ℕ → ℕ → ℕ → ℕ
 dotIn s lo hi = lastDot (take (hi - lo) (drop lo s))
@@ -85,3 +97,9 @@ pub record DotAt (s : List ℕ) (lo hi r : ℕ) : Type 0 where
   pub low : lo ≤ r
   pub high : r ≤ hi
   pub before : (r ≡ lo → ⊥) → r < hi
+
+-- the stem of the name q ends at r
+pub record StemAt (s : List ℕ) (q : Part) (r : ℕ) : Type 0 where
+  pub is : stemSeen s (lift q) ≡ result (seen (q .start) (r - q .start))
+  pub low : q .start ≤ r
+  pub high : r ≤ q .start + q .len

@@ -6,9 +6,10 @@ use components::Dir;
 use components::Start;
 use octets::Seps;
 use parts::Kind;
+use parts::Part;
 use parts::Piece;
 ghost use mathlib.Core.Path.{_≡_};
-ghost use Prim.Native.Nat.{_≤_};
+ghost use Prim.Native.Nat.{_+_, _≤_};
 ghost use lib.ListN.{length};
 ghost use Rattle.octets.specs.Class.{isSep};
 ghost use Rattle.answers.specs.Outcome.{told};
@@ -18,7 +19,7 @@ ghost use Rattle.components.specs.List.{startOf, headList, listOf};
 ghost use Rattle.cursors.specs.Rest.{dotted};
 ghost use Rattle.components.specs.Leaves.{OpenAt};
 ghost use Rattle.views.specs.Views.{parentOf, ancestorOf, fileNameOf, fileStemOf, extensionOf};
-ghost use Rattle.views.specs.Leaves.{upBy, ViewAt, CutAt, leftOf, ClimbAt, headUp, isName, NameAt, DotAt};
+ghost use Rattle.views.specs.Leaves.{upBy, ViewAt, CutAt, leftOf, ClimbAt, headUp, isName, NameAt, BaseAt, DotAt, StemAt};
 
 // Where steps back through a body came to: before place e, or at its beginning with that many steps still to go.
 pub enum Reached {
@@ -121,7 +122,24 @@ fn up(k: Seps, s: &[u8], n: usize) -> View
 pub fn parent(k: Seps, s: &[u8]) -> View
     ensures { λ r. ⌜ ViewAt (parentOf k (now (s .entry))) (now (s .entry)) r ⌝ }
 {
-    up(k, s, 1)
+    let h = components::begin(k, s);
+    let inner = h.seps;
+    let at = h.at;
+    let p = parts::last(inner, s, at, s.len());
+    match p {
+        Piece::Nothing => {
+            let d = h.dir;
+            head_up(d, 1)
+        }
+        Piece::Found(q) => {
+            let len = end_before(k, h, s, q.start);
+            View {
+                reply: Reply::Done,
+                start: 0,
+                len,
+            }
+        }
+    }
 }
 
 // The n-th ancestor; 0 is the path itself.
@@ -168,6 +186,26 @@ pub fn name_part(k: Seps, s: &[u8]) -> Piece
     }
 }
 
+// How many bytes stand before the file name: those of the parent, or all where there is no name.
+pub fn base_len(k: Seps, s: &[u8]) -> usize
+    ensures { λ r. ⌜ BaseAt k (now (s .entry)) r ⌝ }
+{
+    let h = components::begin(k, s);
+    let inner = h.seps;
+    let at = h.at;
+    let p = parts::last(inner, s, at, s.len());
+    match p {
+        Piece::Nothing => s.len(),
+        Piece::Found(q) => {
+            let kind = q.kind;
+            if is_name(kind) {
+                return end_before(k, h, s, q.start);
+            }
+            s.len()
+        }
+    }
+}
+
 // The place of the last dot between lo and hi; lo where none stands behind it.
 fn last_dot(s: &[u8], lo: usize, hi: usize) -> usize
     requires { ⌜ (lo ≤ hi) × (hi ≤ length (now s)) ⌝ }
@@ -198,6 +236,20 @@ pub fn file_name(k: Seps, s: &[u8]) -> View
     }
 }
 
+// Where the stem of a name ends.
+pub fn stem_end(s: &[u8], q: Part) -> usize
+    requires { ⌜ q .start + q .len ≤ length (now s) ⌝ }
+    ensures { λ r. ⌜ StemAt (now (s .entry)) q r ⌝ }
+{
+    let lo = q.start;
+    let hi = lo + q.len;
+    let d = last_dot(s, lo, hi);
+    if lo < d {
+        return d;
+    }
+    hi
+}
+
 pub fn file_stem(k: Seps, s: &[u8]) -> View
     ensures { λ r. ⌜ ViewAt (fileStemOf k (now (s .entry))) (now (s .entry)) r ⌝ }
 {
@@ -205,20 +257,12 @@ pub fn file_stem(k: Seps, s: &[u8]) -> View
     match p {
         Piece::Nothing => answers::refuse_view(Reply::Absent),
         Piece::Found(q) => {
-            let lo = q.start;
-            let hi = lo + q.len;
-            let d = last_dot(s, lo, hi);
-            if lo < d {
-                return View {
-                    reply: Reply::Done,
-                    start: lo,
-                    len: d - lo,
-                };
-            }
+            let start = q.start;
+            let e = stem_end(s, q);
             View {
                 reply: Reply::Done,
-                start: lo,
-                len: q.len,
+                start,
+                len: e - start,
             }
         }
     }

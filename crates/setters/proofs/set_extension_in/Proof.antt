@@ -18,7 +18,6 @@ set-extension-in-spec =
     (λ c. search (needs, setting))
     (λ c. search (needs, setting))
     (λ c. search (needs, setting))
-    (λ c. search (needs, setting))
     (λ c κs. search (needs, setting))
     (λ c. search (needs, setting))
     (λ c. search (needs, setting))

@@ -8,4 +8,10 @@ parent-spec =
     tie.close
     (tie.spec
     (λ c κs. search (needs, climbing))
+    (λ c κs. search (needs, climbing))
+    (λ c. search (needs, climbing))
+    (λ c κs. search (needs, climbing))
+    (λ c. search (needs, climbing))
+    (λ c κs. search (needs, climbing))
+    (λ c. search (needs, climbing))
     (λ c. search (needs, climbing)))
