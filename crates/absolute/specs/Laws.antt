@@ -1,24 +1,26 @@
 -- Laws of `absolute`: what the two walks count and write is what the definition says, and one law a way through each function.
-use Prim.Native.Nat.{ℕ, _+_, _-_, _*_, _^_, _<_, _≤_}
+use Prim.Native.Nat.{ℕ, zero, suc, _+_, _-_, _*_, _^_, _<_, _≤_}
 use mir.Syntax.{w64}
 use mir.Val.{Fits}
-use native.Mathlib.Nat.{add-sub-cancel-left}
+use native.Mathlib.Nat.{add-sub-cancel-left, add-sub-of-le}
 use native.Mathlib.Omega.{arith}
 use mathlib.Core.Path.{_≡_, refl, sym, ap, _∙_}
 use mathlib.Core.List.{List, [], _∷_, _++_, append-nil, append-assoc}
 use mathlib.Core.Bool.{Bool, true, false, not, cond, false≢true}
 use lib.ListN.{length, getD, take, drop, length-append, length-drop}
 use lib.Seq.{length-take-le, getD-take, getD-drop, getD-append-add}
-use borrow.Author.Tests.{eq-eqb, ne-eqb, lt-ltb}
+use lib.Dec.{ltb, leb}
+use borrow.Author.Tests.{eq-eqb, ne-eqb, lt-ltb, ltb-true, ltb-false, leb-true, leb-false}
 use Rattle.octets.specs.Class.{isSep}
-use Rattle.octets.specs.Laws.{split}
+use Rattle.octets.specs.Segment.{endOf, EndAt}
+use Rattle.octets.specs.Laws.{split, lead-short}
 use Rattle.octets.specs.declared.Seps.the-variants.{Unix}
 use Rattle.answers.specs.declared.Reply.the-variants.{Empty, Base, Room}
 use Rattle.answers.specs.declared.View.{View}
 use Rattle.answers.specs.Reply.{refusedView, seen}
 use Rattle.answers.specs.Outcome.{result}
 use Rattle.answers.specs.Written.{over, Wrote}
-use Rattle.buffers.specs.Laws.{over-take, over-over, take-over, no-room, filled, Front, front-all, front-room, front-push, front-at, write-stops, write-goes}
+use Rattle.buffers.specs.Laws.{length-over, over-take, over-over, take-over, no-room, filled, Front, front-all, front-room, front-push, front-at, write-stops, write-goes}
 use Rattle.prefixes.specs.declared.Parsed.the-variants.{Nothing as Bare}
 use Rattle.parts.specs.declared.Component.{Component}
 use Rattle.parts.specs.declared.Component.the-variants.{Prefix, RootDir, CurDir, ParentDir, Normal}
@@ -26,9 +28,11 @@ use Rattle.parts.specs.declared.Element.{Element}
 use Rattle.parts.specs.declared.Part.{Part}
 use Rattle.parts.specs.declared.Piece.{Piece}
 use Rattle.parts.specs.declared.Piece.the-variants.{Nothing, Found}
-use Rattle.parts.specs.Body.{from}
+use Rattle.parts.specs.declared.Sort.{Sort}
+use Rattle.parts.specs.declared.Sort.the-variants.{Skip, Is}
+use Rattle.parts.specs.Body.{sortAt, from}
 use Rattle.parts.specs.Steps.{FirstAt}
-use Rattle.parts.specs.Laws.{first-none, first-found, Bodily, Good, Goods, from-good}
+use Rattle.parts.specs.Laws.{from-is, from-skip, from-end, first-none, first-found, Bodily, Good, Goods, from-good}
 use Rattle.components.specs.declared.Dir.{Dir}
 use Rattle.components.specs.declared.Dir.the-variants.{Bare as NoDir, Root, Implied, Dot}
 use Rattle.components.specs.declared.Start.{Start}
@@ -37,7 +41,7 @@ use Rattle.components.specs.Leaves.{OpenAt}
 use Rattle.seams.specs.Seam.{wants, glued, seamed}
 use Rattle.seams.specs.Laws.{glued-open, glued-shut, seamed-relative}
 use Rattle.absolute.specs.Absolute.{twoSlashes, startFor, leftOut, bytesOf, oneByOne, ends, closed, finished, absoluteOf}
-use Rattle.absolute.specs.Leaves.{sepIf, tailOf, tailFrom, TailLen}
+use Rattle.absolute.specs.Leaves.{sepIf, tailOf, tailFrom, TailLen, RoomAt}
 
 -- `ends_sep`, `two_slashes`
 module _ (s : List ℕ) where
@@ -197,7 +201,48 @@ module _ (s : List ℕ) (i : ℕ) (r : Piece) (f : FirstAt (isSep Unix) false s 
       pub len-fits : Fits w64 (n + z + x .len)
       len-fits = let t = first-found f g in record { fits = omega (arith, gap-few o, t .low, t .high, t .room) }
 
-pub ruleset lens = (len-open, len-shut, len-on, gap-fits, len-low, len-high, len-fits)
+-- ---- what comes of s is no longer than s and two bytes
+module _ (s : List ℕ) where
+  end-at : (i : ℕ) → i ≤ length s → EndAt (isSep Unix) s i (endOf (isSep Unix) s i)
+  unfolding endOf
+  end-at i h = record { is = refl; low = omega arith; high = omega (arith, lead-short (isSep Unix) (drop i s), length-drop i s) }
+
+  none-few : (b : Bool) (i : ℕ) → length s ≤ i → length (tailFrom s b i) ≤ length (sepIf b)
+  unfolding tailFrom tailOf
+  none-few b i h = rw (from-end (isSep Unix) false s i h) (split (ends s) (λ e. rw e (omega arith)) (λ e. rw e (omega arith)))
+
+  segment-few : (i e : ℕ) (b : Bool) → EndAt (isSep Unix) s i e → ((c : Bool) → length (tailFrom s c (e + 1)) ≤ length (sepIf c) + (length s + 1 - (e + 1))) → (q : Sort) → sortAt false s i e ≡ q → length (tailFrom s b i) ≤ length (sepIf b) + (length s + 1 - i)
+  unfolding tailFrom tailOf
+  segment-few i e b a f Skip g = rw (from-skip (isSep Unix) false s i e a g) (omega (arith, f b, a .low))
+  segment-few i e b a f (Is q) g =
+      let c : length (take (e - i) (drop i s)) ≡ e - i = length-take-le (e - i) (drop i s) (omega (arith, length-drop i s, a .high)) in
+      rw (from-is (isSep Unix) false s i e q a g, add-sub-of-le (a .low)) (simp length-append (omega (arith, c, f true, a .low, a .high)))
+
+  few-by : (n i : ℕ) (b : Bool) → length s + 1 - i ≤ n → length (tailFrom s b i) ≤ length (sepIf b) + (length s + 1 - i)
+  few-by zero i b h = omega (arith, none-few b i (omega arith))
+  few-by (suc n) i b h =
+      split (ltb (length s) i)
+      (λ t. let z = ltb-true (length s) i t in omega (arith, none-few b i (omega arith)))
+      (λ t.
+      let a = end-at i (ltb-false (length s) i t) in
+      segment-few i (endOf (isSep Unix) s i) b a (λ c. few-by n (endOf (isSep Unix) s i + 1) c (omega (arith, a .low))) (sortAt false s i (endOf (isSep Unix) s i)) refl)
+
+  pub tail-few : (b : Bool) (i : ℕ) → length (tailFrom s b i) ≤ length s + 2
+  tail-few b i = omega (arith, few-by (length s + 1 - i) i b (omega arith), gap-few b)
+
+-- `has_room`
+module _ (s : List ℕ) (b : Bool) (i m n : ℕ) where
+  pub room-much : m + length s + 2 ≤ n → RoomAt s b i m n true
+  room-much h = record { enough = λ e. omega (arith, tail-few s b i); short = λ e. absurd (false≢true (sym e)) }
+
+  pub room-counted : (k : ℕ) → TailLen s b i k → RoomAt s b i m n (leb (m + k) n)
+  room-counted k l =
+      record {
+        enough = λ e. omega (arith, l .is, leb-true (m + k) n e);
+        short = λ e. omega (arith, l .is, leb-false (m + k) n e);
+      }
+
+pub ruleset lens = (room-much, room-counted, len-open, len-shut, len-on, gap-fits, len-low, len-high, len-fits)
 
 -- `write_tail`: f says what the loop has kept
 module _ (w b s : List ℕ) (i : ℕ) (o : Bool) (n : ℕ) (out : List ℕ) (f : Front w b (tailFrom s o i) n out) (r : Piece) (g : FirstAt (isSep Unix) false s i r) where
@@ -232,26 +277,44 @@ module _ (w b s : List ℕ) (i : ℕ) (o : Bool) (n : ℕ) (out : List ℕ) (f :
       pub end-put : (m : ℕ) (after : List ℕ) → m ≡ n + length (sepIf o) → after ≡ over (take n out ++ sepIf o) out → after ≡ over w b
       end-put m after p q = front-all (front-push (sepIf o) [] gap-last q p)
 
+-- the place behind all that is to come
+module _ (b t s : List ℕ) (j i : ℕ) (o : Bool) (n : ℕ) (out : List ℕ) (f : Front (take j b ++ t) b (tailFrom s o i) n out) (c : j + length t ≤ length b) (r : Piece) (g : FirstAt (isSep Unix) false s i r) (h : r ≡ Nothing) (y : Bool) (e : y ≡ ends s) where
+  all : (m : ℕ) (after : List ℕ) → Front (take j b ++ t) b [] m after → m ≡ j + length t
+  all m after u = omega (arith, u .within, length-drop m (take j b ++ t), ap length (u .to-come), length-append (take j b) t, length-take-le j b (omega arith))
+
+  pub stop-shut : y ≡ false → n ≡ j + length t
+  stop-shut k = all n out (rw (tail-shut s i r g o h y e k) at f)
+
+  pub stop-open : (m : ℕ) (after : List ℕ) → y ≡ true → after ≡ over (take n out ++ sepIf o) out → m ≡ n + length (sepIf o) → m ≡ j + length t
+  stop-open m after k q p = all m after (front-push (sepIf o) [] (rw append-nil (rw (tail-open s i r g o h y e k) at f)) q p)
+
 pub front-long : (w b rest : List ℕ) (n : ℕ) (out : List ℕ) → Front w b rest n out → length out ≡ length b
 front-long w b rest n out f = f .long
 
-pub ruleset writes = (front-at, on-gap, on-room, on-put, end-shut, end-room, end-put, front-long)
+pub ruleset writes = (front-at, on-gap, on-room, on-put, end-shut, end-room, end-put, stop-shut, stop-open, front-long)
 
 -- ---- `finish`
-module _ (s t : List ℕ) (h : Start) (p : OpenAt Unix s h) (o : Bool) (q : o ≡ wants Unix t) (m : ℕ) (l : TailLen s o (h .at) m) where
+module _ (s t : List ℕ) (h : Start) (p : OpenAt Unix s h) (o : Bool) (q : o ≡ wants Unix t) (b : List ℕ) (x : Bool) (l : RoomAt s o (h .at) (length t) (length b) x) where
   finish-is : finished s t ≡ t ++ tailFrom s o (h .at)
   finish-is = finished-is s t h p ∙ rw q
 
-  finish-long : length (finished s t) ≡ length t + m
-  finish-long = omega (arith, l .is, ap length finish-is, length-append t (tailFrom s o (h .at)))
+  finish-long : length (finished s t) ≡ length t + length (tailFrom s o (h .at))
+  finish-long = ap length finish-is ∙ length-append t (tailFrom s o (h .at))
 
-  pub finish-room : (a : View) (b : List ℕ) → length b < length t + m → a ≡ refusedView Room → Wrote (result (finished s t)) a b b
-  finish-room a b k e = rw e (no-room (omega (arith, finish-long)))
+  pub finish-room : (a : View) → x ≡ false → a ≡ refusedView Room → Wrote (result (finished s t)) a b b
+  finish-room a y e = rw e (no-room (omega (arith, finish-long, l .short y)))
 
-  pub finish-done : (b one two : List ℕ) → length t + m ≤ length b → one ≡ over t b → two ≡ over (take (length t) one ++ tailFrom s o (h .at)) one → Wrote (result (finished s t)) (seen 0 (length t + m)) b two
-  finish-done b one two k e f = filled (omega (arith, finish-long)) (sym finish-long) (f ∙ rw (finish-is, e, take-over t b (length t) refl, over-over t (tailFrom s o (h .at)) b))
+  pub finish-done : (n : ℕ) (one two : List ℕ) → x ≡ true → one ≡ over t b → n ≡ length t + length (tailFrom s o (h .at)) → two ≡ over (take (length t) one ++ tailFrom s o (h .at)) one → Wrote (result (finished s t)) (seen 0 n) b two
+  finish-done n one two y e c f = filled (omega (arith, finish-long, l .enough y)) (c ∙ sym finish-long) (f ∙ rw (finish-is, e, take-over t b (length t) refl, over-over t (tailFrom s o (h .at)) b))
 
-pub ruleset finishes = (finish-room, finish-done)
+module _ (s t : List ℕ) (o : Bool) (i : ℕ) (b : List ℕ) (x : Bool) (l : RoomAt s o i (length t) (length b) x) (y : x ≡ true) where
+  pub finish-copy : length t ≤ length b
+  finish-copy = omega (arith, l .enough y)
+
+  pub finish-fits : (one : List ℕ) → one ≡ over t b → length t + length (tailFrom s o i) ≤ length one
+  finish-fits one e = rw (e, length-over t b finish-copy) (l .enough y)
+
+pub ruleset finishes = (finish-room, finish-done, finish-copy, finish-fits)
 
 -- ---- `absolute`
 module _ (s cwd : List ℕ) (a : View) (b : List ℕ) where

@@ -1,5 +1,5 @@
 -- What is still to be written behind a start, as the two walks see it. Nothing here has to be believed.
-use Prim.Native.Nat.{ℕ, _+_, _≤_}
+use Prim.Native.Nat.{ℕ, _+_, _<_, _≤_}
 use mathlib.Core.Path.{_≡_}
 use mathlib.Core.List.{List, [], _∷_, _++_}
 use mathlib.Core.Bool.{Bool, true, false, cond}
@@ -27,3 +27,8 @@ tailFrom s b i = tailOf s b (from (isSep Unix) false s i)
 pub record TailLen (s : List ℕ) (b : Bool) (i r : ℕ) : Type 0 where
   pub is : r ≡ length (tailFrom s b i)
   pub small : r ≤ length s + 2
+
+-- r tells whether n bytes hold m and it
+pub record RoomAt (s : List ℕ) (b : Bool) (i m n : ℕ) (r : Bool) : Type 0 where
+  pub enough : r ≡ true → m + length (tailFrom s b i) ≤ n
+  pub short : r ≡ false → n < m + length (tailFrom s b i)

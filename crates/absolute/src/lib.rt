@@ -1,5 +1,5 @@
-// Unix `absolute`: a path made absolute in a current directory that is handed in. One walk over the path's parts finds
-// the finished length, and where there is room for it a second walk writes.
+// Unix `absolute`: a path made absolute in a current directory that is handed in. A walk over the path's parts writes; where
+// the room may not be enough, another before it finds the finished length.
 use answers::Reply;
 use answers::View;
 use octets::Seps;
@@ -11,7 +11,7 @@ ghost use lib.ListN.{length, take};
 ghost use Rattle.answers.specs.Outcome.{result};
 ghost use Rattle.answers.specs.Written.{over, Wrote};
 ghost use Rattle.absolute.specs.Absolute.{twoSlashes, ends, finished, absoluteOf};
-ghost use Rattle.absolute.specs.Leaves.{sepIf, tailFrom, TailLen};
+ghost use Rattle.absolute.specs.Leaves.{sepIf, tailFrom, TailLen, RoomAt};
 
 // Whether a path ends in a separator.
 fn ends_sep(s: &[u8]) -> bool
@@ -83,9 +83,21 @@ fn tail_len(s: &[u8], at: usize, apart: bool) -> usize
     }
 }
 
-// The same bytes, written behind a start that ends at `begin`.
-fn write_tail(s: &[u8], at: usize, apart: bool, out: &mut [u8], begin: usize)
+// Whether n bytes hold m and what comes of s from `at` on. That is counted only where it may be too much.
+fn has_room(s: &[u8], at: usize, apart: bool, m: usize, n: usize) -> bool
+    requires { ⌜ m + length (now s) + 2 < 2 ^ 64 ⌝ }
+    ensures { λ r. ⌜ RoomAt (now (s .entry)) apart at m n r ⌝ }
+{
+    if m + s.len() + 2 <= n {
+        return true;
+    }
+    m + tail_len(s, at, apart) <= n
+}
+
+// The same bytes, written behind a start that ends at `begin`; the place behind them.
+fn write_tail(s: &[u8], at: usize, apart: bool, out: &mut [u8], begin: usize) -> usize
     requires { ⌜ begin + length (tailFrom (now s) apart at) ≤ length (now out) ⌝ }
+    ensures { λ r. ⌜ r ≡ begin + length (tailFrom (now (s .entry)) apart at) ⌝ }
     ensures { λ _. ⌜ now (out .exit) ≡ over (take begin (now (out .entry)) ++ tailFrom (now (s .entry)) apart at) (now (out .entry)) ⌝ }
 {
     let mut i = at;
@@ -96,9 +108,9 @@ fn write_tail(s: &[u8], at: usize, apart: bool, out: &mut [u8], begin: usize)
         match p {
             Piece::Nothing => {
                 if ends_sep(s) {
-                    put_gap(out, n, o);
+                    return put_gap(out, n, o);
                 }
-                return;
+                return n;
             }
             Piece::Found(x) => {
                 let a = x.start;
@@ -121,17 +133,16 @@ fn finish(t: &[u8], s: &[u8], out: &mut [u8]) -> View
     let at = h.at;
     let o = seams::wants_sep(Seps::Unix, t);
     let m = t.len();
-    let n = m + tail_len(s, at, o);
-    if out.len() < n {
-        return answers::refuse_view(Reply::Room);
+    if has_room(s, at, o, m, out.len()) {
+        buffers::copy(out, t);
+        let len = write_tail(s, at, o, out, m);
+        return View {
+            reply: Reply::Done,
+            start: 0,
+            len,
+        };
     }
-    buffers::copy(out, t);
-    write_tail(s, at, o, out, m);
-    View {
-        reply: Reply::Done,
-        start: 0,
-        len: n,
-    }
+    answers::refuse_view(Reply::Room)
 }
 
 // The path s made absolute in the current directory cwd, which is looked at for a relative path only.
