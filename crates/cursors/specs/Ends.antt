@@ -30,7 +30,7 @@ use Rattle.parts.specs.Laws.{upto-nth, nth-behind, nth-inside, back-behind, bac
 use Rattle.components.specs.declared.Start.{Start}
 use Rattle.components.specs.List.{headList, bodyList, wholeOf, listOf, startOf}
 use Rattle.components.specs.Leaves.{OpenAt, CountAt}
-use Rattle.components.specs.Laws.{whole-list, whole-body, head-few}
+use Rattle.components.specs.Laws.{whole-list, whole-body, back-found, head-few}
 use Rattle.cursors.specs.declared.Span.{Span}
 use Rattle.cursors.specs.declared.Seen.{Seen}
 use Rattle.cursors.specs.declared.Seen.the-variants.{Unknown, Is}
@@ -129,13 +129,36 @@ back-is h s b i e z d g j m =
     let l = back-inside-of (wholeOf h s) b {p = e} (sym g ∙ j) in
     record { is = (rw (m, g, ← dot-plain (dotted h s) (length (wholeOf h s)) 0 b d, ← left-zero (wholeOf h s) 0 refl) (simp (lt-ltb (0 + b) (length (wholeOf h s)) (omega (arith, l)))), omega (arith, l)) }
 
--- `rest_seen`, `rest_in`
+-- `rest_second`
+module _ (h : Start) (s : List ℕ) (b : ℕ) (p : Piece) (e : raised p ≡ nthBackOf (within (isSep (h .seps)) (dots (h .seps)) s (h .at) (length s)) b) (x : Part) (i : p ≡ Found x) where
+  last-is : Here (lift x) ≡ nthBackOf (wholeOf h s) b
+  last-is = back-found h s b p e x i (Here (lift x)) (rw i)
+
+  pub second-fits : In h s → Fits w64 (x .start + x .len)
+  second-fits w = record { fits = omega (arith, back-small h s w (Here (lift x)) b last-is) }
+
+  module _ (n : ℕ) (c : CountAt (headList h) n) (z : n ≡ 0 → ⊥) where
+    far-in : 1 + b < length (wholeOf h s)
+    unfolding wholeOf bodyList within
+    far-in =
+        let l : b < length (from (isSep (h .seps)) (dots (h .seps)) s (h .at)) = back-inside-of _ b {p = lift x} (rw (take-length s, i) at (sym e)) in
+        omega (arith, l, c .is, z, length-append (headList h) (bodyList h s))
+
+    pub second-is : (a : ℕ) → dotted h s ≡ false → a ≡ leftEnd (wholeOf h s) 1 → SeenAt h s 1 b (Is (span a (x .start + x .len)))
+    unfolding restOf
+    second-is a d g = record { is = (rw (← dot-plain (dotted h s) (length (wholeOf h s)) 1 b d, g, ← last-is) (simp (lt-ltb (1 + b) (length (wholeOf h s)) far-in)), omega (arith, far-in)) }
+
+-- `rest_first`, `rest_seen`, `rest_in`
 module _ (h : Start) (s : List ℕ) (r : Bool) (e : r ≡ dotted h s) where
   pub plain-is : r ≡ false → dotted h s ≡ false
   plain-is y = sym e ∙ y
 
-pub seen-none : (h : Start) (s : List ℕ) (f b : ℕ) (r : Seen) → f ≡ 0 → SeenAt h s 0 b r → SeenAt h s f b r
-seen-none h s f b r z t = rw z t
+module _ (h : Start) (s : List ℕ) (f b : ℕ) (r : Seen) where
+  pub seen-none : f ≡ 0 → SeenAt h s 0 b r → SeenAt h s f b r
+  seen-none z t = rw z t
+
+  pub seen-one : f ≤ 1 → (f ≡ 0 → ⊥) → SeenAt h s 1 b r → SeenAt h s f b r
+  seen-one m z t = let e : f ≡ 1 = omega arith in rw e t
 
 pub seen-is : (k : Seps) (s : List ℕ) (h : Start) (f b : ℕ) (r : Seen) (w : Span) → OpenAt k s h → SeenAt h s f b r → r ≡ Is w → Rests w ≡ restAsked k s f b
 unfolding restAsked
@@ -143,4 +166,4 @@ seen-is k s h f b r w o t g =
     let u = rw g at (t .is) in
     rw (← whole-list k s h o) (simp (le-ltb (length (wholeOf h s)) (f + b) (u .1)) (rw (u .0, ← o .is)))
 
-pub ruleset ends = (head-low, between-fits, between-is, back-is, plain-is, seen-none, seen-is)
+pub ruleset ends = (head-low, between-fits, between-is, back-is, second-fits, second-is, plain-is, seen-none, seen-one, seen-is)

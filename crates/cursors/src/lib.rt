@@ -242,6 +242,27 @@ fn rest_back(h: Start, s: &[u8], b: usize) -> Seen
     }
 }
 
+// With one taken at the front, of a head: all parts are left, and the one that has b behind it is the last.
+fn rest_second(h: Start, s: &[u8], b: usize) -> Seen
+    requires { ⌜ In h (now s) × (dotted h (now s) ≡ false) ⌝ }
+    ensures { λ r. ⌜ SeenAt h (now (s .entry)) 1 b r ⌝ }
+{
+    if components::head_count(h) == 0 {
+        return Seen::Unknown;
+    }
+    let k = h.seps;
+    let at = h.at;
+    let p = parts::nth_back(k, s, at, s.len(), b);
+    match p {
+        Piece::Nothing => Seen::Unknown,
+        Piece::Found(x) => {
+            let end = x.start + x.len;
+            let start = left_second(h, s);
+            Seen::Is(Span { start, end })
+        }
+    }
+}
+
 // Behind the head: from part f to the part that has b behind it, which is looked for no farther than part f.
 fn rest_between(h: Start, s: &[u8], f: usize, b: usize) -> Seen
     requires { ⌜ In h (now s) × (2 ≤ f) ⌝ }
@@ -267,19 +288,27 @@ fn rest_between(h: Start, s: &[u8], f: usize, b: usize) -> Seen
     }
 }
 
-// The rest where the ends alone tell it: none was taken at the front, or all of the head was.
+// The rest where at most one was taken at the front.
+fn rest_first(h: Start, s: &[u8], f: usize, b: usize) -> Seen
+    requires { ⌜ In h (now s) × (f ≤ 1) ⌝ }
+    ensures { λ r. ⌜ SeenAt h (now (s .entry)) f b r ⌝ }
+{
+    if is_dotted(h, s) {
+        return Seen::Unknown;
+    }
+    if f == 0 {
+        return rest_back(h, s, b);
+    }
+    rest_second(h, s, b)
+}
+
+// The rest where the ends alone tell it.
 fn rest_seen(h: Start, s: &[u8], f: usize, b: usize) -> Seen
     requires { ⌜ In h (now s) ⌝ }
     ensures { λ r. ⌜ SeenAt h (now (s .entry)) f b r ⌝ }
 {
-    if f == 0 {
-        if is_dotted(h, s) {
-            return Seen::Unknown;
-        }
-        return rest_back(h, s, b);
-    }
-    if f == 1 {
-        return Seen::Unknown;
+    if f < 2 {
+        return rest_first(h, s, f, b);
     }
     rest_between(h, s, f, b)
 }

@@ -84,8 +84,9 @@ fn follow_bodies(s: &[u8], g: Start, t: &[u8], h: Start) -> Place
     let i = g.at;
     let l = h.seps;
     let j = h.at;
-    let n = order::skip(k, s, i, l, t, j);
-    walk(k, s, i + n, l, t, j + n)
+    let n = order::mismatch(s, t);
+    let m = order::skip(k, s, i, l, t, j, n);
+    walk(k, s, i + m, l, t, j + m)
 }
 
 // Where the rest starts while nothing is taken, or nothing but the prefix, which ends at e.

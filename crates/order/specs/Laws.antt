@@ -4,7 +4,7 @@ use native.Mathlib.Omega.{arith}
 use native.Mathlib.Numerals.{add-one}
 use native.Mathlib.Nat.{add-sub-cancel-left}
 use mathlib.Core.Path.{_≡_, refl, sym, ap, _∙_}
-use mathlib.Core.List.{List, [], _∷_, _++_}
+use mathlib.Core.List.{List, [], _∷_, _++_, append-nil}
 use mathlib.Core.Bool.{Bool, true, false, false≢true}
 use mathlib.Core.Logic.{⊎-elim, inl, inr}
 use lib.ListN.{length, getD, take, drop, drop-of-length-le, length-drop, take-append-drop}
@@ -544,4 +544,12 @@ module _ (k : Seps) (s t : List ℕ) (g h : Start) (o : OpenAt k s g) (q : OpenA
     pub compare-behind : b ≡ false → Greater ≡ compareOf k s t
     compare-behind y = by-meeting (Apart Greater) (whole-second-more k s g o t h q m e b f z y)
 
-pub ruleset orders = (compare-same, compare-apart, compare-longer, compare-before, compare-shorter, compare-behind)
+pub compare-equal : (k : Seps) (s t : List ℕ) (n : ℕ) → Differ s t n → n ≡ length s → n ≡ length t → Equal ≡ compareOf k s t
+unfolding compareOf lexical
+compare-equal k s t n d x y =
+    let a : take n s ≡ s = rw x (take-length s) in
+    let b : take n t ≡ t = rw y (take-length t) in
+    let e : s ≡ t = sym a ∙ d .same ∙ b in
+    rw e (sym (rw append-nil at (lists-skip value-ordered (valuesOf k t) [] [])))
+
+pub ruleset orders = (compare-equal, compare-same, compare-apart, compare-longer, compare-before, compare-shorter, compare-behind)

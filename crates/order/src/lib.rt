@@ -99,7 +99,7 @@ fn stretch(a: &[u8], b: &[u8], n: usize) -> usize
 }
 
 // The first place at which a and b differ, or where the shorter ends.
-fn mismatch(a: &[u8], b: &[u8]) -> usize
+pub fn mismatch(a: &[u8], b: &[u8]) -> usize
     ensures { λ r. ⌜ Differ (now (a .entry)) (now (b .entry)) r ⌝ }
 {
     let n = least(a.len(), b.len());
@@ -393,43 +393,43 @@ fn seam(k: Seps, s: &[u8], lo: usize, hi: usize) -> usize
     lo
 }
 
-// How many bytes two bodies have in common, up to a separator. Where both paths begin with the same bytes and are read alike,
+// How many bytes two bodies have in common, up to a separator. Where both paths begin with the same n bytes and are read alike,
 // these are passed over without looking for parts in them, as Rust does.
-pub fn skip(k: Seps, s: &[u8], i: usize, h: Seps, t: &[u8], j: usize) -> usize
-    requires { ⌜ (i ≤ length (now s)) × (j ≤ length (now t)) ⌝ }
+pub fn skip(k: Seps, s: &[u8], i: usize, h: Seps, t: &[u8], j: usize, n: usize) -> usize
+    requires { ⌜ (i ≤ length (now s)) × (j ≤ length (now t)) × Differ (now s) (now t) n ⌝ }
     ensures { λ r. ⌜ SkipAt k (now (s .entry)) i h (now (t .entry)) j r ⌝ }
 {
     if i == j {
         if seps_number(k) == seps_number(h) {
-            let n = mismatch(s, t);
             return seam(k, s, i, n) - i;
         }
     }
     0
 }
 
-// The order of two bodies, behind the heads g and h.
-fn cmp_bodies(s: &[u8], g: Start, t: &[u8], h: Start) -> Ordering
-    requires { ⌜ (g .at ≤ length (now s)) × (h .at ≤ length (now t)) ⌝ }
+// The order of two bodies, behind the heads g and h, of paths that begin with the same n bytes.
+fn cmp_bodies(s: &[u8], g: Start, t: &[u8], h: Start, n: usize) -> Ordering
+    requires { ⌜ (g .at ≤ length (now s)) × (h .at ≤ length (now t)) × Differ (now s) (now t) n ⌝ }
     ensures { λ r. ⌜ r ≡ cmpValues (bodyValues (g .seps) (now (s .entry)) (g .at)) (bodyValues (h .seps) (now (t .entry)) (h .at)) ⌝ }
 {
     let k = g.seps;
     let i = g.at;
     let l = h.seps;
     let j = h.at;
-    let n = skip(k, s, i, l, t, j);
-    walk(k, s, i + n, l, t, j + n)
+    let m = skip(k, s, i, l, t, j, n);
+    walk(k, s, i + m, l, t, j + m)
 }
 
-// The order of two paths.
-pub fn compare(k: Seps, s: &[u8], t: &[u8]) -> Ordering
+// The order of two paths that begin with the same n bytes.
+fn compare_behind(k: Seps, s: &[u8], t: &[u8], n: usize) -> Ordering
+    requires { ⌜ Differ (now s) (now t) n ⌝ }
     ensures { λ r. ⌜ r ≡ compareOf k (now (s .entry)) (now (t .entry)) ⌝ }
 {
     let g = components::begin(k, s);
     let h = components::begin(k, t);
     let m = meet_heads(s, g, t, h);
     match m {
-        Heads::Same => cmp_bodies(s, g, t, h),
+        Heads::Same => cmp_bodies(s, g, t, h, n),
         Heads::Apart(o) => o,
         Heads::First => {
             if is_bare(h, t) {
@@ -444,4 +444,17 @@ pub fn compare(k: Seps, s: &[u8], t: &[u8]) -> Ordering
             Ordering::Greater
         }
     }
+}
+
+// The order of two paths.
+pub fn compare(k: Seps, s: &[u8], t: &[u8]) -> Ordering
+    ensures { λ r. ⌜ r ≡ compareOf k (now (s .entry)) (now (t .entry)) ⌝ }
+{
+    let n = mismatch(s, t);
+    if n == s.len() {
+        if n == t.len() {
+            return Ordering::Equal;
+        }
+    }
+    compare_behind(k, s, t, n)
 }

@@ -8,6 +8,7 @@ follow-bodies-spec =
     tie.close
     (tie.spec
     (λ c κs. search (needs, pieces))
+    (λ c κs. search (needs, pieces))
     (λ c. search (needs, pieces))
     (λ c. search (needs, pieces))
     (λ c κs. search (needs, pieces))

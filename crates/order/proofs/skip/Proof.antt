@@ -10,7 +10,6 @@ skip-spec =
     (λ c κs. search (needs, skips))
     (λ c κs. search (needs, skips))
     (λ c κs. search (needs, skips))
-    (λ c κs. search (needs, skips))
     (λ c. search (needs, skips))
     (λ c. search (needs, skips))
     (λ c. search (needs, skips))
