@@ -30,7 +30,7 @@ use Rattle.parts.specs.Laws.{upto-nth, nth-behind, nth-inside, back-behind, bac
 use Rattle.components.specs.declared.Start.{Start}
 use Rattle.components.specs.List.{headList, bodyList, wholeOf, listOf, startOf}
 use Rattle.components.specs.Leaves.{OpenAt, CountAt}
-use Rattle.components.specs.Laws.{whole-list, whole-body, back-found, head-few}
+use Rattle.components.specs.Laws.{whole-list, whole-body, head-few}
 use Rattle.cursors.specs.declared.Span.{Span}
 use Rattle.cursors.specs.declared.Seen.{Seen}
 use Rattle.cursors.specs.declared.Seen.the-variants.{Unknown, Is}
@@ -131,18 +131,27 @@ back-is h s b i e z d g j m =
 
 -- `rest_second`
 module _ (h : Start) (s : List ℕ) (b : ℕ) (p : Piece) (e : raised p ≡ nthBackOf (within (isSep (h .seps)) (dots (h .seps)) s (h .at) (length s)) b) (x : Part) (i : p ≡ Found x) where
+  abbrev parts : List Element
+  parts = from (isSep (h .seps)) (dots (h .seps)) s (h .at)
+
+  found : nthBackOf parts b ≡ Here (lift x)
+  unfolding within
+  found = rw (take-length s, i) at (sym e)
+
+  inside : b < length parts
+  inside = back-inside-of parts b {p = lift x} found
+
   last-is : Here (lift x) ≡ nthBackOf (wholeOf h s) b
-  last-is = back-found h s b p e x i (Here (lift x)) (rw i)
+  unfolding wholeOf bodyList
+  last-is = sym (back-behind (headList h) parts b inside ∙ found)
 
   pub second-fits : In h s → Fits w64 (x .start + x .len)
   second-fits w = record { fits = omega (arith, back-small h s w (Here (lift x)) b last-is) }
 
   module _ (n : ℕ) (c : CountAt (headList h) n) (z : n ≡ 0 → ⊥) where
     far-in : 1 + b < length (wholeOf h s)
-    unfolding wholeOf bodyList within
-    far-in =
-        let l : b < length (from (isSep (h .seps)) (dots (h .seps)) s (h .at)) = back-inside-of _ b {p = lift x} (rw (take-length s, i) at (sym e)) in
-        omega (arith, l, c .is, z, length-append (headList h) (bodyList h s))
+    unfolding wholeOf bodyList
+    far-in = omega (arith, inside, c .is, z, length-append (headList h) parts)
 
     pub second-is : (a : ℕ) → dotted h s ≡ false → a ≡ leftEnd (wholeOf h s) 1 → SeenAt h s 1 b (Is (span a (x .start + x .len)))
     unfolding restOf
