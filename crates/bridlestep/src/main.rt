@@ -10,13 +10,15 @@ use paths::Cursor;
 use paths::Stepped;
 use paths::Taken;
 use wording::Command;
-use wording::LINE;
 ghost use mathlib.Core.Path.{_≡_};
 ghost use Prim.Native.Nat.{_≤_};
 ghost use lib.ListN.{length};
 
 // A word is kept up to this many bytes: one more than a path may have. Of a longer one that many are handed on, and refused.
 const WORD: usize = 4097;
+
+// The buffer for a line: 41 bytes, and four for each byte of a path that is escaped.
+const LINE: usize = 16448;
 
 // A path of n bytes has at most n + 3 components.
 const MOST: usize = 4100;

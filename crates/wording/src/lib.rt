@@ -1,5 +1,5 @@
-// What the command `bridlestep` reads and shows: its words, and a component as a line of a table. Which command and which mode a word
-// names are equations; of the rest it is proved that it is safe and stays within the line, and tested that it reads as it should.
+// What the command `bridlestep` reads and shows: which command and which mode a word names, and a component as a line of a table, each
+// equal to a definition, byte by byte.
 mod commands;
 mod lines;
 
@@ -7,5 +7,4 @@ pub use commands::Command;
 pub use commands::command_of;
 pub use commands::mode_of;
 pub use commands::words_of;
-pub use lines::LINE;
 pub use lines::line;
