@@ -17,7 +17,7 @@ use Rattle.prefixes.specs.declared.Names.{Names}
 use Rattle.prefixes.specs.declared.Prefix.the-variants.{VerbatimUnc}
 use Rattle.prefixes.specs.declared.Parsed.the-variants.{Nothing}
 use Rattle.prefixes.specs.Prefix.{turned, begins, drive, driveExact, past, nameOf, namesOf, verbatimOf, uncOf, isVerbatim, deviceOf, prefixOf, lenOf, endOfPrefix}
-use Rattle.prefixes.specs.Laws.{drive-short, drive-two, exact-not, exact-end, exact-sep, exact-three}
+use Rattle.prefixes.specs.Laws.{begins-few, drive-short, drive-two, exact-not, exact-end, exact-sep, exact-three}
 
 drop-take : (n m : ℕ) (t : List ℕ) → drop n (take m t) ≡ take (m - n) (drop n t)
 drop-take zero m t = rw sub-zero
@@ -39,12 +39,6 @@ begins-less [] t m h = h
 begins-less (c ∷ w) t zero h = refl
 begins-less (c ∷ w) [] (suc m) h = refl
 begins-less (c ∷ w) (x ∷ t) (suc m) h = split (eqb (turned x) c) (λ y. rw y (begins-less w t m (rw y at h))) (λ y. rw y)
-
-begins-few : (w t : List ℕ) → length t < length w → begins w t ≡ false
-unfolding begins
-begins-few [] t h = absurd (omega arith)
-begins-few (c ∷ w) [] h = refl
-begins-few (c ∷ w) (x ∷ t) h = split (eqb (turned x) c) (λ y. rw y (begins-few w t (omega arith))) (λ y. rw y)
 
 module _ (t : List ℕ) (m : ℕ) where
   drive-take : 2 ≤ m → drive (take m t) ≡ drive t

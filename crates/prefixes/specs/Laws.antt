@@ -8,7 +8,7 @@ use mathlib.Core.Path.{_≡_, refl, sym, ap, _∙_}
 use mathlib.Core.List.{List, [], _∷_}
 use mathlib.Core.Bool.{Bool, true, false, not, cond, false≢true}
 use lib.ListN.{length, getD, take, drop, drop-of-length-le, length-drop}
-use lib.Seq.{drop-cons, take-all}
+use lib.Seq.{drop-cons, drop-drop, take-all}
 use lib.Dec.{eqb, ltb, leb}
 use borrow.Author.Tests.{eq-eqb, ne-eqb, lt-ltb, le-ltb, ltb-true, ltb-false, eqb-true, eqb-false}
 use Rattle.octets.specs.Class.{classOf, isLetter, isSep}
@@ -24,18 +24,10 @@ use Rattle.prefixes.specs.declared.Prefix.the-variants.{Verbatim, Verbat
 use Rattle.prefixes.specs.declared.Parsed.{Parsed}
 use Rattle.prefixes.specs.declared.Parsed.the-variants.{Nothing, Is}
 use Rattle.prefixes.specs.Prefix.{turned, begins, slashed, capital, drive, driveExact, past, nameOf, namesOf, isVerbatim, verbatimOf, uncOf, deviceOf, prefixOf, shareLen, lenOf, endOfPrefix, prefixIn, driveFigures, nameFigures, namesFigures, figuresOf, parsedFigures}
-use Rattle.prefixes.specs.Leaves.{beginsFrom, slashedFrom, Past, NamesIn}
+use Rattle.prefixes.specs.Leaves.{Past, NamesIn}
 
--- `turn`, `to_capital`, `step_past`
+-- `to_capital`, `step_past`
 module _ (b : ℕ) where
-  pub turn-slash : b ≡ 47 → 92 ≡ turned b
-  unfolding turned
-  turn-slash e = rw e
-
-  pub turn-same : (b ≡ 47 → ⊥) → b ≡ turned b
-  unfolding turned
-  turn-same h = simp (ne-eqb b 47 h)
-
   pub capital-same : b < 97 → b ≡ capital b
   unfolding capital
   capital-same h = simp (lt-ltb b 97 h)
@@ -53,31 +45,6 @@ module _ (a n : ℕ) where
   unfolding past
   past-end g h = record { is = simp (le-ltb a n h); high = g }
 
--- `begins_with`: e says what the loop has kept
-module _ (w s : List ℕ) where
-  pub begins-start : begins w s ≡ beginsFrom w s 0
-  unfolding beginsFrom
-  begins-start = refl
-
-  module _ (i : ℕ) (e : begins w s ≡ beginsFrom w s i) where
-    pub begins-done : length w ≤ i → true ≡ begins w s
-    unfolding beginsFrom begins
-    begins-done h = sym (e ∙ rw (drop-of-length-le w h))
-
-    module _ (h : i < length w) where
-      pub begins-short : length s ≤ i → false ≡ begins w s
-      unfolding beginsFrom begins
-      begins-short g = sym (e ∙ rw (drop-cons w i 0 h, drop-of-length-le s g))
-
-      module _ (g : i < length s) (b : ℕ) (t : b ≡ turned (getD s i 0)) where
-        pub begins-off : (b ≡ getD w i 0 → ⊥) → false ≡ begins w s
-        unfolding beginsFrom begins
-        begins-off n = sym (e ∙ rw (drop-cons w i 0 h, drop-cons s i 0 g, ← t) (simp (ne-eqb b (getD w i 0) n)))
-
-        pub begins-on : b ≡ getD w i 0 → begins w s ≡ beginsFrom w s (i + 1)
-        unfolding beginsFrom begins
-        begins-on y = e ∙ rw (drop-cons w i 0 h, drop-cons s i 0 g, ← t, add-one) (simp (eq-eqb b (getD w i 0) y))
-
 -- what begins with w is as long
 fits : (w s : List ℕ) → begins w s ≡ true → length w ≤ length s
 unfolding begins
@@ -85,25 +52,121 @@ fits [] s h = omega arith
 fits (c ∷ w) [] h = absurd (false≢true h)
 fits (c ∷ w) (x ∷ s) h = split (eqb (turned x) c) (λ e. omega (arith, fits w s (rw e at h))) (λ e. absurd (false≢true (rw e at h)))
 
--- `has_slash`
+-- and what is shorter does not
+pub begins-few : (w t : List ℕ) → length t < length w → begins w t ≡ false
+begins-few w t h = split (begins w t) (λ e. absurd (omega (arith, fits w t e))) (λ e. e)
+
+-- ---- what the bytes of a mark tell, one after the other
+module _ (w s : List ℕ) (i : ℕ) (h : i < length s) where
+  -- `/` and `\` count as `\`
+  sep-on : begins (92 ∷ w) (drop i s) ≡ cond (isSep Windows (getD s i 0)) (begins w (drop (i + 1) s)) false
+  unfolding begins turned
+  sep-on = rw (drop-cons s i 0 h, add-one) (split (eqb (getD s i 0) 47) (λ e. rw e) (λ e. rw e))
+
+  -- another byte counts as itself
+  byte-on : (c : ℕ) → eqb 92 c ≡ false → eqb 47 c ≡ false → begins (c ∷ w) (drop i s) ≡ cond (eqb (getD s i 0) c) (begins w (drop (i + 1) s)) false
+  unfolding begins turned
+  byte-on c f g = rw (drop-cons s i 0 h, add-one) (split (eqb (getD s i 0) 47) (λ e. rw (eqb-true (getD s i 0) 47 e, f, g)) (λ e. rw e))
+
+-- `two_seps`, `is_device`, `is_unc`
+last : (b : Bool) → cond b true false ≡ b
+last true = refl
+last false = refl
+
+two-bytes : (s : List ℕ) → 2 ≤ length s → begins (92 ∷ 92 ∷ []) s ≡ cond (isSep Windows (getD s 0 0)) (isSep Windows (getD s 1 0)) false
+unfolding begins
+two-bytes s h = sep-on (92 ∷ []) s 0 (omega arith) ∙ rw (sep-on [] s 1 (omega arith), last (isSep Windows (getD s 1 0)))
+
+device-bytes : (s : List ℕ) → 4 ≤ length s → begins (46 ∷ 92 ∷ []) (drop 2 s) ≡ cond (eqb (getD s 2 0) 46) (isSep Windows (getD s 3 0)) false
+unfolding begins
+device-bytes s h = byte-on (92 ∷ []) s 2 (omega arith) 46 refl refl ∙ rw (sep-on [] s 3 (omega arith), last (isSep Windows (getD s 3 0)))
+
+unc-bytes : (s : List ℕ) → 8 ≤ length s
+    → begins (85 ∷ 78 ∷ 67 ∷ 92 ∷ []) (drop 4 s) ≡ cond (eqb (getD s 4 0) 85) (cond (eqb (getD s 5 0) 78) (cond (eqb (getD s 6 0) 67) (isSep Windows (getD s 7 0)) false) false) false
+unfolding begins
+unc-bytes s h =
+    byte-on (78 ∷ 67 ∷ 92 ∷ []) s 4 (omega arith) 85 refl refl
+    ∙ rw (byte-on (67 ∷ 92 ∷ []) s 5 (omega arith) 78 refl refl, byte-on (92 ∷ []) s 6 (omega arith) 67 refl refl, sep-on [] s 7 (omega arith), last (isSep Windows (getD s 7 0)))
+
 module _ (s : List ℕ) where
-  pub slash-start : slashed s ≡ slashedFrom s 0
-  unfolding slashedFrom
-  slash-start = refl
+  pub two-short : length s < 2 → false ≡ begins (92 ∷ 92 ∷ []) s
+  two-short h = sym (begins-few (92 ∷ 92 ∷ []) s h)
 
-  module _ (i : ℕ) (e : slashed s ≡ slashedFrom s i) where
-    pub slash-done : length s ≤ i → false ≡ slashed s
-    unfolding slashedFrom slashed
-    slash-done h = sym (e ∙ rw (drop-of-length-le s h))
+  module _ (h : 2 ≤ length s) (a : Bool) (e : a ≡ isSep Windows (getD s 0 0)) where
+    pub two-on : (b : Bool) → a ≡ true → b ≡ isSep Windows (getD s 1 0) → b ≡ begins (92 ∷ 92 ∷ []) s
+    two-on b y f = f ∙ sym (two-bytes s h ∙ rw (← e, y))
 
-    module _ (h : i < length s) where
-      pub slash-here : getD s i 0 ≡ 47 → true ≡ slashed s
-      unfolding slashedFrom slashed
-      slash-here g = sym (e ∙ rw (drop-cons s i 0 h) (simp (eq-eqb (getD s i 0) 47 g)))
+    pub two-off : a ≡ false → false ≡ begins (92 ∷ 92 ∷ []) s
+    two-off n = sym (two-bytes s h ∙ rw (← e, n))
 
-      pub slash-on : (getD s i 0 ≡ 47 → ⊥) → slashed s ≡ slashedFrom s (i + 1)
-      unfolding slashedFrom slashed
-      slash-on g = e ∙ rw (drop-cons s i 0 h, add-one) (simp (ne-eqb (getD s i 0) 47 g))
+  pub device-short : length s < 4 → false ≡ begins (46 ∷ 92 ∷ []) (drop 2 s)
+  device-short h = sym (begins-few (46 ∷ 92 ∷ []) (drop 2 s) (omega (arith, length-drop 2 s)))
+
+  module _ (h : 4 ≤ length s) where
+    pub device-off : (getD s 2 0 ≡ 46 → ⊥) → false ≡ begins (46 ∷ 92 ∷ []) (drop 2 s)
+    device-off n = sym (device-bytes s h ∙ rw (ne-eqb (getD s 2 0) 46 n))
+
+    pub device-on : (b : Bool) → getD s 2 0 ≡ 46 → b ≡ isSep Windows (getD s 3 0) → b ≡ begins (46 ∷ 92 ∷ []) (drop 2 s)
+    device-on b y f = f ∙ sym (device-bytes s h ∙ rw y)
+
+  pub unc-short : length s < 8 → false ≡ begins (85 ∷ 78 ∷ 67 ∷ 92 ∷ []) (drop 4 s)
+  unc-short h = sym (begins-few (85 ∷ 78 ∷ 67 ∷ 92 ∷ []) (drop 4 s) (omega (arith, length-drop 4 s)))
+
+  module _ (h : 8 ≤ length s) where
+    pub unc-off-1 : (getD s 4 0 ≡ 85 → ⊥) → false ≡ begins (85 ∷ 78 ∷ 67 ∷ 92 ∷ []) (drop 4 s)
+    unc-off-1 n = sym (unc-bytes s h ∙ rw (ne-eqb (getD s 4 0) 85 n))
+
+    module _ (u : getD s 4 0 ≡ 85) where
+      pub unc-off-2 : (getD s 5 0 ≡ 78 → ⊥) → false ≡ begins (85 ∷ 78 ∷ 67 ∷ 92 ∷ []) (drop 4 s)
+      unc-off-2 n = sym (unc-bytes s h ∙ rw (u, ne-eqb (getD s 5 0) 78 n))
+
+      module _ (v : getD s 5 0 ≡ 78) where
+        pub unc-off-3 : (getD s 6 0 ≡ 67 → ⊥) → false ≡ begins (85 ∷ 78 ∷ 67 ∷ 92 ∷ []) (drop 4 s)
+        unc-off-3 n = sym (unc-bytes s h ∙ rw (u, v, ne-eqb (getD s 6 0) 67 n))
+
+        pub unc-on : (b : Bool) → getD s 6 0 ≡ 67 → b ≡ isSep Windows (getD s 7 0) → b ≡ begins (85 ∷ 78 ∷ 67 ∷ 92 ∷ []) (drop 4 s)
+        unc-on b y f = f ∙ sym (unc-bytes s h ∙ rw (u, v, y))
+
+-- `is_verbatim`: the four bytes are `\\?\`, if the first two count as `\\`
+verb-bytes : (s : List ℕ) → 4 ≤ length s
+    → isVerbatim s ≡ cond (eqb (getD s 2 0) 63) (cond (eqb (getD s 3 0) 92) (cond (eqb (getD s 0 0) 47) false (cond (eqb (getD s 1 0) 47) false true)) false) false
+unfolding isVerbatim begins turned slashed
+verb-bytes [] h = absurd (omega arith)
+verb-bytes (w ∷ []) h = absurd (omega arith)
+verb-bytes (w ∷ x ∷ []) h = absurd (omega arith)
+verb-bytes (w ∷ x ∷ y ∷ []) h = absurd (omega arith)
+verb-bytes (w ∷ x ∷ y ∷ z ∷ t) h =
+    split (eqb y 63)
+    (λ e. rw (eqb-true y 63 e) (split (eqb z 47)
+    (λ f. rw (eqb-true z 47 f) (split (eqb w 47) (λ a. rw a) (λ a. rw a (split (eqb x 47) (λ b. rw b) (λ b. rw b)))))
+    (λ f. rw f (split (eqb z 92)
+    (λ g. rw g (split (eqb w 47) (λ a. rw a) (λ a. rw a (split (eqb x 47) (λ b. rw b) (λ b. rw b)))))
+    (λ g. rw g)))))
+    (λ e. rw e (split (eqb y 47) (λ f. rw f) (λ f. rw (f, e))))
+
+module _ (s : List ℕ) where
+  pub verb-short : length s < 4 → false ≡ isVerbatim s
+  unfolding isVerbatim
+  verb-short h = rw (begins-few (63 ∷ 92 ∷ []) (drop 2 s) (omega (arith, length-drop 2 s)))
+
+  module _ (h : 4 ≤ length s) where
+    pub verb-mark : (getD s 2 0 ≡ 63 → ⊥) → false ≡ isVerbatim s
+    verb-mark n = sym (verb-bytes s h ∙ rw (ne-eqb (getD s 2 0) 63 n))
+
+    module _ (u : getD s 2 0 ≡ 63) where
+      pub verb-back : (getD s 3 0 ≡ 92 → ⊥) → false ≡ isVerbatim s
+      verb-back n = sym (verb-bytes s h ∙ rw (u, ne-eqb (getD s 3 0) 92 n))
+
+      module _ (v : getD s 3 0 ≡ 92) where
+        pub verb-slash-1 : getD s 0 0 ≡ 47 → false ≡ isVerbatim s
+        verb-slash-1 y = sym (verb-bytes s h ∙ rw (u, v, y))
+
+        module _ (n : getD s 0 0 ≡ 47 → ⊥) where
+          pub verb-slash-2 : getD s 1 0 ≡ 47 → false ≡ isVerbatim s
+          verb-slash-2 y = sym (verb-bytes s h ∙ rw (u, v, ne-eqb (getD s 0 0) 47 n, y))
+
+          pub verb-yes : (getD s 1 0 ≡ 47 → ⊥) → true ≡ isVerbatim s
+          verb-yes m = sym (verb-bytes s h ∙ rw (u, v, ne-eqb (getD s 0 0) 47 n, ne-eqb (getD s 1 0) 47 m))
 
 -- `is_drive`, `is_drive_exact`
 pub drive-short : (t : List ℕ) → length t < 2 → false ≡ drive t
@@ -185,59 +248,51 @@ behind : (b : ℕ) (s : List ℕ) → take (length s - b) (drop b s) ≡ drop b 
 behind b s = take-all (length s - b) (drop b s) (omega (arith, length-drop b s))
 
 -- `name_of`, `names_of`
-whole-end : (sep : ℕ → Bool) (t : List ℕ) (n : ℕ) → EndAt sep t 0 n → n ≡ length (lead sep t)
+end-len : (sep : ℕ → Bool) (s : List ℕ) (i e : ℕ) → EndAt sep s i e → e - i ≡ length (lead sep (drop i s))
 unfolding endOf
-whole-end sep t n h = h .is ∙ omega arith
+end-len sep s i e h = omega (arith, h .is)
 
-module _ (sep : ℕ → Bool) (i : ℕ) (t : List ℕ) where
-  pub name-is : (n : ℕ) → EndAt sep t 0 n → record { start = i; len = n } ≡ nameOf sep i t
+module _ (sep : ℕ → Bool) (s : List ℕ) (i : ℕ) where
+  pub name-is : (e : ℕ) → EndAt sep s i e → record { start = i; len = e - i } ≡ nameOf sep i (drop i s)
   unfolding nameOf
-  name-is n h = rw (whole-end sep t n h)
+  name-is e h = rw (end-len sep s i e h)
 
-  pub names-are : (a b n : ℕ) → EndAt sep t 0 a → Past a (length t) b → EndAt sep (part b t) 0 n
-      → record { server = record { start = i; len = a }; share = record { start = i + b; len = n } } ≡ namesOf sep i t
-  unfolding namesOf
-  names-are a b n f g h = rw (whole-end sep (part b t) n h, behind b t, g .is, whole-end sep t a f)
+  module _ (a b : ℕ) (f : EndAt sep s i a) (g : Past a (length s) b) where
+    past-len : b ≡ i + past (length (lead sep (drop i s))) (length (drop i s))
+    unfolding past
+    past-len =
+        g .is ∙ rw (← end-len sep s i a f, length-drop i s) (split (ltb a (length s))
+        (λ e. let l : ltb (a - i) (length s - i) ≡ true = lt-ltb (a - i) (length s - i) (omega (arith, ltb-true a (length s) e, f .low)) in rw (e, l) (omega (arith, f .low)))
+        (λ e. let l : ltb (a - i) (length s - i) ≡ false = le-ltb (a - i) (length s - i) (omega (arith, ltb-false a (length s) e, f .low)) in rw (e, l) (omega (arith, f .low))))
 
--- `is_verbatim`, `verbatim`, `unc`, `parse_prefix`: q, v, d, h are what the tests answered
-part-fits : (w s : List ℕ) (b : ℕ) (q : Bool) → q ≡ begins w (part b s) → q ≡ true → b ≤ length s → b + length w ≤ length s
-part-fits w s b q e y l = omega (arith, fits w (drop b s) (rw (← behind b s) (sym e ∙ y)), length-drop b s)
+    past-drop : drop (past (length (lead sep (drop i s))) (length (drop i s))) (drop i s) ≡ drop b s
+    past-drop = rw (drop-drop, past-len)
+
+    pub names-are : (e : ℕ) → EndAt sep s b e → record { server = record { start = i; len = a - i }; share = record { start = b; len = e - b } } ≡ namesOf sep i (drop i s)
+    unfolding namesOf
+    names-are e h = rw (past-drop, ← past-len, end-len sep s i a f, end-len sep s b e h)
+
+-- `verbatim`, `unc`, `parse_prefix`: q, v, d are what the tests answered
+drop-fits : (w s : List ℕ) (b : ℕ) (q : Bool) → q ≡ begins w (drop b s) → q ≡ true → b ≤ length s → b + length w ≤ length s
+drop-fits w s b q e y l = omega (arith, fits w (drop b s) (sym e ∙ y), length-drop b s)
 
 module _ (s : List ℕ) where
-  module _ (q : Bool) (e : q ≡ begins (63 ∷ 92 ∷ []) (part 2 s)) where
-    pub verb-not : q ≡ false → false ≡ isVerbatim s
-    unfolding isVerbatim
-    verb-not n = rw (← behind 2 s, ← e, n)
-
-    module _ (y : q ≡ true) where
-      pub verb-four : 2 ≤ length s → 4 ≤ length s
-      verb-four l = part-fits (63 ∷ 92 ∷ []) s 2 q e y l
-
-      module _ (h : Bool) (g : h ≡ slashed (take 4 s)) where
-        pub verb-slash : h ≡ true → false ≡ isVerbatim s
-        unfolding isVerbatim
-        verb-slash n = rw (← behind 2 s, ← e, y, ← g, n)
-
-        pub verb-yes : h ≡ false → true ≡ isVerbatim s
-        unfolding isVerbatim
-        verb-yes n = rw (← behind 2 s, ← e, y, ← g, n)
-
-  module _ (q : Bool) (e : q ≡ begins (85 ∷ 78 ∷ 67 ∷ 92 ∷ []) (part 4 s)) where
+  module _ (q : Bool) (e : q ≡ begins (85 ∷ 78 ∷ 67 ∷ 92 ∷ []) (drop 4 s)) where
     pub unc-eight : q ≡ true → 4 ≤ length s → 8 ≤ length s
-    unc-eight y l = part-fits (85 ∷ 78 ∷ 67 ∷ 92 ∷ []) s 4 q e y l
+    unc-eight y l = drop-fits (85 ∷ 78 ∷ 67 ∷ 92 ∷ []) s 4 q e y l
 
-    pub is-verbatim-unc : (n : Names) → q ≡ true → n ≡ namesOf (isSep OnlyBack) 8 (part 8 s) → VerbatimUnc n ≡ verbatimOf s
+    pub is-verbatim-unc : (n : Names) → q ≡ true → n ≡ namesOf (isSep OnlyBack) 8 (drop 8 s) → VerbatimUnc n ≡ verbatimOf s
     unfolding verbatimOf
-    is-verbatim-unc n y g = rw (g, behind 8 s, ← behind 4 s, ← e, y)
+    is-verbatim-unc n y g = rw (g, ← e, y)
 
     module _ (d : Bool) (g : d ≡ driveExact (part 4 s)) (n : q ≡ false) where
       pub is-verbatim-disk : (x : ℕ) → d ≡ true → x ≡ capital (getD s 4 0) → VerbatimDisk x ≡ verbatimOf s
       unfolding verbatimOf
-      is-verbatim-disk x y f = rw (f, ← behind 4 s, ← e, n, ← g, y)
+      is-verbatim-disk x y f = rw (f, ← e, n, ← (rw (behind 4 s) at g), y)
 
-      pub is-verbatim-name : (x : Name) → d ≡ false → x ≡ nameOf (isSep OnlyBack) 4 (part 4 s) → Verbatim x ≡ verbatimOf s
+      pub is-verbatim-name : (x : Name) → d ≡ false → x ≡ nameOf (isSep OnlyBack) 4 (drop 4 s) → Verbatim x ≡ verbatimOf s
       unfolding verbatimOf
-      is-verbatim-name x y f = rw (f, behind 4 s, ← (rw (behind 4 s) at e), n, ← (rw (behind 4 s) at g), y)
+      is-verbatim-name x y f = rw (f, ← e, n, ← (rw (behind 4 s) at g), y)
 
   pub exact-five : (d : Bool) → d ≡ driveExact (part 4 s) → d ≡ true → 4 < length s
   exact-five d g y = omega (arith, exact-long (drop 4 s) (rw (← behind 4 s) (sym g ∙ y)), length-drop 4 s)
@@ -256,17 +311,17 @@ module _ (s : List ℕ) where
       unfolding uncOf
       unc-both b = rw (← e) (simp (ne-eqb (n .server .len) 0 a, ne-eqb (n .share .len) 0 b))
 
-  module _ (d : Bool) (g : d ≡ begins (46 ∷ 92 ∷ []) (part 2 s)) where
+  module _ (d : Bool) (g : d ≡ begins (46 ∷ 92 ∷ []) (drop 2 s)) where
     pub device-four : d ≡ true → 2 ≤ length s → 4 ≤ length s
-    device-four y l = part-fits (46 ∷ 92 ∷ []) s 2 d g y l
+    device-four y l = drop-fits (46 ∷ 92 ∷ []) s 2 d g y l
 
-    pub is-device : (n : Name) → d ≡ true → n ≡ nameOf (isSep Windows) 4 (part 4 s) → Is (DeviceNs n) ≡ deviceOf s
+    pub is-device : (n : Name) → d ≡ true → n ≡ nameOf (isSep Windows) 4 (drop 4 s) → Is (DeviceNs n) ≡ deviceOf s
     unfolding deviceOf
-    is-device n y h = rw (h, behind 4 s, ← (rw (behind 2 s) at g), y)
+    is-device n y h = rw (h, ← g, y)
 
-    pub is-unc : (u : Parsed) → d ≡ false → u ≡ uncOf (part 2 s) → u ≡ deviceOf s
+    pub is-unc : (u : Parsed) → d ≡ false → u ≡ uncOf (drop 2 s) → u ≡ deviceOf s
     unfolding deviceOf
-    is-unc u n h = h ∙ rw (behind 2 s, ← (rw (behind 2 s) at g), n)
+    is-unc u n h = h ∙ rw (← g, n)
 
   module _ (q : Bool) (e : q ≡ begins (92 ∷ 92 ∷ []) s) where
     module _ (y : q ≡ true) where
@@ -288,14 +343,11 @@ module _ (s : List ℕ) where
         unfolding prefixOf
         prefix-other p x g = rw (g, ← e, y, ← f, x)
 
-    module _ (n : q ≡ false) (d : Bool) (g : d ≡ drive s) where
-      pub prefix-disk : (x : ℕ) → d ≡ true → x ≡ capital (getD s 0 0) → Is (Disk x) ≡ prefixOf s
-      unfolding prefixOf
-      prefix-disk x y h = rw (h, ← e, n, ← g, y)
+    pub prefix-none : (d : Bool) → d ≡ drive s → d ≡ false → q ≡ false → Nothing ≡ prefixOf s
+    prefix-none d g y n = sym (bare-none s (sym g ∙ y) (sym e ∙ n))
 
-      pub prefix-none : d ≡ false → Nothing ≡ prefixOf s
-      unfolding prefixOf
-      prefix-none y = rw (← e, n, ← g, y)
+  pub prefix-disk : (d : Bool) (x : ℕ) → d ≡ drive s → d ≡ true → x ≡ capital (getD s 0 0) → Is (Disk x) ≡ prefixOf s
+  prefix-disk d x g y h = rw h (sym (drive-disk s (sym g ∙ y)))
 
 pub share-none : (n : ℕ) → n ≡ 0 → 0 ≡ shareLen n
 share-none n e = rw e
@@ -350,21 +402,21 @@ module _ (p : Prefix) where
 pub ruleset lengths = (len-verbatim, len-device, len-unc, len-verbatim-unc, fits-verbatim, fits-device, fits-unc-1, fits-unc-2, fits-unc-3, fits-verbatim-unc-1, share-small, fits-verbatim-unc-2)
 
 pub ruleset prefixes = (
-  turn-slash,
-  turn-same,
   capital-same,
   capital-down,
   past-on,
   past-end,
-  begins-start,
-  begins-done,
-  begins-short,
-  begins-off,
-  begins-on,
-  slash-start,
-  slash-done,
-  slash-here,
-  slash-on,
+  two-short,
+  two-on,
+  two-off,
+  device-short,
+  device-off,
+  device-on,
+  unc-short,
+  unc-off-1,
+  unc-off-2,
+  unc-off-3,
+  unc-on,
   drive-short,
   drive-here,
   drive-not,
@@ -375,9 +427,11 @@ pub ruleset prefixes = (
   exact-sep,
   name-is,
   names-are,
-  verb-not,
-  verb-four,
-  verb-slash,
+  verb-short,
+  verb-mark,
+  verb-back,
+  verb-slash-1,
+  verb-slash-2,
   verb-yes,
   unc-eight,
   is-verbatim-unc,

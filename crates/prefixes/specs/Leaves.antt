@@ -1,18 +1,10 @@
--- What the private leaves promise and their loops keep. Nothing here has to be believed: the public promises do not name it.
+-- What the private leaves promise. Nothing here has to be believed: the public promises do not name it.
 use Prim.Native.Nat.{ℕ, _+_, _≤_}
 use mathlib.Core.Path.{_≡_}
 use mathlib.Core.List.{List}
-use mathlib.Core.Bool.{Bool}
-use lib.ListN.{length, drop}
+use lib.ListN.{length}
 use Rattle.prefixes.specs.declared.Figures.{Figures}
-use Rattle.prefixes.specs.Prefix.{begins, slashed, past}
-
--- what is left of a question at place i
-unfoldable pub beginsFrom : List ℕ → List ℕ → ℕ → Bool
-beginsFrom w s i = begins (drop i w) (drop i s)
-
-unfoldable pub slashedFrom : List ℕ → ℕ → Bool
-slashedFrom s i = slashed (drop i s)
+use Rattle.prefixes.specs.Prefix.{past}
 
 pub record Past (a n r : ℕ) : Type 0 where
   pub is : r ≡ past a n

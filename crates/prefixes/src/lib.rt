@@ -2,9 +2,10 @@
 use octets::Seps;
 ghost use mathlib.Core.Path.{_≡_};
 ghost use Prim.Native.Nat.{ℕ, _+_, _-_, _^_, _<_, _≤_};
-ghost use lib.ListN.{length};
+ghost use mathlib.Core.List.{[], _∷_};
+ghost use lib.ListN.{length, drop};
 ghost use Rattle.octets.specs.Class.{isSep};
-ghost use Rattle.prefixes.specs.Prefix.{turned, begins, slashed, capital, drive, driveExact, nameOf, namesOf, isVerbatim, verbatimOf, uncOf, deviceOf, prefixOf, prefixIn, shareLen, lenOf, endOfPrefix, driveFigures, nameFigures, namesFigures, figuresOf, parsedFigures};
+ghost use Rattle.prefixes.specs.Prefix.{begins, capital, drive, driveExact, nameOf, namesOf, isVerbatim, verbatimOf, uncOf, deviceOf, prefixOf, prefixIn, shareLen, lenOf, endOfPrefix, driveFigures, nameFigures, namesFigures, figuresOf, parsedFigures};
 ghost use Rattle.prefixes.specs.Leaves.{Past};
 
 // A name: a part of the path.
@@ -33,44 +34,15 @@ pub enum Parsed {
     Is(Prefix),
 }
 
-// A byte, `/` counting as `\`.
-fn turn(b: u8) -> u8
-    ensures { λ r. ⌜ r ≡ turned b ⌝ }
+// Whether s starts with `\\`, read so that `/` counts as `\`.
+fn two_seps(s: &[u8]) -> bool
+    ensures { λ r. ⌜ r ≡ begins (92 ∷ 92 ∷ []) (now (s .entry)) ⌝ }
 {
-    if b == 47 {
-        return 92;
+    if s.len() < 2 {
+        return false;
     }
-    b
-}
-
-// Whether s begins with w, where `/` in s counts as `\`.
-fn begins_with(s: &[u8], w: &[u8]) -> bool
-    ensures { λ r. ⌜ r ≡ begins (now (w .entry)) (now (s .entry)) ⌝ }
-{
-    let mut i = 0;
-    while i < w.len() {
-        if s.len() <= i {
-            return false;
-        }
-        let b = turn(s[i]);
-        if b != w[i] {
-            return false;
-        }
-        i += 1;
-    }
-    true
-}
-
-// Whether a byte of s is really `/`.
-fn has_slash(s: &[u8]) -> bool
-    ensures { λ r. ⌜ r ≡ slashed (now (s .entry)) ⌝ }
-{
-    let mut i = 0;
-    while i < s.len() {
-        if s[i] == 47 {
-            return true;
-        }
-        i += 1;
+    if octets::is_sep(Seps::Windows, s[0]) {
+        return octets::is_sep(Seps::Windows, s[1]);
     }
     false
 }
@@ -111,12 +83,16 @@ fn is_drive_exact(t: &[u8]) -> bool
     false
 }
 
-// The name at the front of t, which starts at place i.
-fn name_of(k: Seps, t: &[u8], i: usize) -> Name
-    ensures { λ r. ⌜ r ≡ nameOf (isSep k) i (now (t .entry)) ⌝ }
+// The name at place i of s.
+fn name_of(k: Seps, s: &[u8], i: usize) -> Name
+    requires { ⌜ i ≤ length (now s) ⌝ }
+    ensures { λ r. ⌜ r ≡ nameOf (isSep k) i (drop i (now (s .entry))) ⌝ }
 {
-    let n = octets::far_sep(k, t, 0);
-    Name { start: i, len: n }
+    let e = octets::next_sep(k, s, i);
+    Name {
+        start: i,
+        len: e - i,
+    }
 }
 
 // Behind the separator at place a, of n bytes, if there is one.
@@ -130,35 +106,65 @@ fn step_past(a: usize, n: usize) -> usize
     a
 }
 
-// The two names at the front of t, which starts at place i.
-fn names_of(k: Seps, t: &[u8], i: usize) -> Names
-    requires { ⌜ i ≤ 8 ⌝ }
-    ensures { λ r. ⌜ r ≡ namesOf (isSep k) i (now (t .entry)) ⌝ }
+// The two names at place i of s.
+fn names_of(k: Seps, s: &[u8], i: usize) -> Names
+    requires { ⌜ i ≤ length (now s) ⌝ }
+    ensures { λ r. ⌜ r ≡ namesOf (isSep k) i (drop i (now (s .entry))) ⌝ }
 {
-    let a = octets::next_sep(k, t, 0);
-    let b = step_past(a, t.len());
-    let n = octets::next_sep(k, &t[b..], 0);
+    let a = octets::next_sep(k, s, i);
+    let b = step_past(a, s.len());
+    let e = octets::next_sep(k, s, b);
     Names {
-        server: Name { start: i, len: a },
+        server: Name {
+            start: i,
+            len: a - i,
+        },
         share: Name {
-            start: i + b,
-            len: n,
+            start: b,
+            len: e - b,
         },
     }
 }
 
-// Whether `\\` goes on to a verbatim prefix.
+// Whether `\\` goes on to a verbatim prefix: the four bytes are really those of `\\?\`.
 fn is_verbatim(s: &[u8]) -> bool
-    requires { ⌜ 2 ≤ length (now s) ⌝ }
     ensures { λ r. ⌜ r ≡ isVerbatim (now (s .entry)) ⌝ }
 {
-    if begins_with(&s[2..], b"?\\") {
-        if has_slash(&s[0..4]) {
-            return false;
-        }
-        return true;
+    if s.len() < 4 {
+        return false;
     }
-    false
+    if s[2] != 63 {
+        return false;
+    }
+    if s[3] != 92 {
+        return false;
+    }
+    if s[0] == 47 {
+        return false;
+    }
+    if s[1] == 47 {
+        return false;
+    }
+    true
+}
+
+// Whether `UNC\` stands behind `\\?\`.
+fn is_unc(s: &[u8]) -> bool
+    ensures { λ r. ⌜ r ≡ begins (85 ∷ 78 ∷ 67 ∷ 92 ∷ []) (drop 4 (now (s .entry))) ⌝ }
+{
+    if s.len() < 8 {
+        return false;
+    }
+    if s[4] != 85 {
+        return false;
+    }
+    if s[5] != 78 {
+        return false;
+    }
+    if s[6] != 67 {
+        return false;
+    }
+    octets::is_sep(Seps::Windows, s[7])
 }
 
 // The prefix of a path that starts with `\\?\`.
@@ -166,23 +172,24 @@ fn verbatim(s: &[u8]) -> Prefix
     requires { ⌜ 4 ≤ length (now s) ⌝ }
     ensures { λ r. ⌜ r ≡ verbatimOf (now (s .entry)) ⌝ }
 {
-    if begins_with(&s[4..], b"UNC\\") {
-        let n = names_of(Seps::Verbatim, &s[8..], 8);
+    if is_unc(s) {
+        let n = names_of(Seps::Verbatim, s, 8);
         return Prefix::VerbatimUnc(n);
     }
     if is_drive_exact(&s[4..]) {
         let d = to_capital(s[4]);
         return Prefix::VerbatimDisk(d);
     }
-    let n = name_of(Seps::Verbatim, &s[4..], 4);
+    let n = name_of(Seps::Verbatim, s, 4);
     Prefix::Verbatim(n)
 }
 
-// Server and share in t, the part behind `\\`, if neither is empty.
-fn unc(t: &[u8]) -> Parsed
-    ensures { λ r. ⌜ r ≡ uncOf (now (t .entry)) ⌝ }
+// Server and share behind `\\`, if neither is empty.
+fn unc(s: &[u8]) -> Parsed
+    requires { ⌜ 2 ≤ length (now s) ⌝ }
+    ensures { λ r. ⌜ r ≡ uncOf (drop 2 (now (s .entry))) ⌝ }
 {
-    let n = names_of(Seps::Windows, t, 2);
+    let n = names_of(Seps::Windows, s, 2);
     let a = n.server;
     let b = n.share;
     if a.len == 0 {
@@ -194,32 +201,45 @@ fn unc(t: &[u8]) -> Parsed
     Parsed::Is(Prefix::Unc(n))
 }
 
+// Whether `\\` goes on to `.\`.
+fn is_device(s: &[u8]) -> bool
+    ensures { λ r. ⌜ r ≡ begins (46 ∷ 92 ∷ []) (drop 2 (now (s .entry))) ⌝ }
+{
+    if s.len() < 4 {
+        return false;
+    }
+    if s[2] != 46 {
+        return false;
+    }
+    octets::is_sep(Seps::Windows, s[3])
+}
+
 // The prefix of a path that starts with `\\` and is not verbatim.
 fn device_or_unc(s: &[u8]) -> Parsed
     requires { ⌜ 2 ≤ length (now s) ⌝ }
     ensures { λ r. ⌜ r ≡ deviceOf (now (s .entry)) ⌝ }
 {
-    if begins_with(&s[2..], b".\\") {
-        let n = name_of(Seps::Windows, &s[4..], 4);
+    if is_device(s) {
+        let n = name_of(Seps::Windows, s, 4);
         return Parsed::Is(Prefix::DeviceNs(n));
     }
-    unc(&s[2..])
+    unc(s)
 }
 
-// The prefix of a Windows path.
+// The prefix of a Windows path. A drive, the commonest, is asked first: its letter is no separator.
 pub fn parse_prefix(s: &[u8]) -> Parsed
     ensures { λ r. ⌜ r ≡ prefixOf (now (s .entry)) ⌝ }
 {
-    if begins_with(s, b"\\\\") {
+    if is_drive(s) {
+        let d = to_capital(s[0]);
+        return Parsed::Is(Prefix::Disk(d));
+    }
+    if two_seps(s) {
         if is_verbatim(s) {
             let p = verbatim(s);
             return Parsed::Is(p);
         }
         return device_or_unc(s);
-    }
-    if is_drive(s) {
-        let d = to_capital(s[0]);
-        return Parsed::Is(Prefix::Disk(d));
     }
     Parsed::Nothing
 }
