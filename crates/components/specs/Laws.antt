@@ -26,18 +26,19 @@ use Rattle.parts.specs.declared.Item.{Item}
 use Rattle.parts.specs.declared.Item.the-variants.{Missing, Here}
 use Rattle.parts.specs.declared.Part.{Part}
 use Rattle.parts.specs.declared.Piece.{Piece}
-use Rattle.parts.specs.declared.Piece.the-variants.{Found}
+use Rattle.parts.specs.declared.Piece.the-variants.{Nothing as None, Found}
 use Rattle.parts.specs.declared.Back.{Back}
 use Rattle.parts.specs.declared.Back.the-variants.{At, Left}
 use Rattle.parts.specs.Body.{dots, from}
 use Rattle.parts.specs.Elements.{nthOf, nthBackOf, Upto}
-use Rattle.parts.specs.Steps.{lift, raised, within, BackAt}
-use Rattle.parts.specs.Laws.{from-upto, upto-append, few, nth-append, nth-behind, nth-past, back-behind, back-before, back-past, back-nth, back-inside-of}
+use Rattle.parts.specs.Steps.{lift, raised, within, LastAt, BackAt}
+use Rattle.parts.specs.Laws.{from-upto, upto-append, few, nth-append, nth-behind, nth-past, back-behind, back-before, back-past, back-nth, back-inside-of, last-none, last-one}
 use Rattle.components.specs.declared.Dir.{Dir}
 use Rattle.components.specs.declared.Dir.the-variants.{Bare, Root, Implied, Dot}
 use Rattle.components.specs.declared.Start.{Start}
+use Rattle.components.specs.declared.Body.{Body}
 use Rattle.components.specs.List.{sepAt, dotAt, prefixSeps, innerSeps, prefixDir, behindPrefix, dirOf, dirLen, startOf, prefixPart, dirPart, headList, bodyList, wholeOf, listOf, isDisk, rootless, isRoot, hasRoot, wantsPrefix, isAbsolute}
-use Rattle.components.specs.Leaves.{startWith, OpenAt, CountAt}
+use Rattle.components.specs.Leaves.{startWith, OpenAt, BodyAt, CountAt}
 
 -- `sep_at`, `dot_at`
 module _ (k : Seps) (s : List ℕ) (i : ℕ) where
@@ -191,6 +192,40 @@ on-drive s b e f = sym e ∙ f
 
 pub ruleset heads = (sep-in, sep-past, dot-past, dot-not, dot-end, dot-sep, seps-behind, dir-dot, dir-bare, dir-prefix, dir-root, dir-else, end-within, with-fits, with-is, parsed-small, parsed-open, plain-small, plain-open, drive-some, drive-small, drive-open, unix-plain, verbatim-plain, windows-plain, on-drive)
 
+-- `body_in`
+module _ (k : Seps) (s : List ℕ) where
+  pub open-start : OpenAt k s (startOf k s)
+  unfolding startOf startWith
+  open-start = parsed-open k s (prefixIn k s) refl _ refl _ refl _ refl
+
+  pub begun-body : (h : Start) → OpenAt k s h → BodyAt k s (record { at = h .at; seps = h .seps })
+  begun-body h o = record { place = ap (λ (x : Start). x .at) (o .is); by = ap (λ (x : Start). x .seps) (o .is) }
+
+  module _ (f : prefixIn k s ≡ Nothing) (b : Bool) (e : b ≡ sepAt k s 0) where
+    pub plain-rooted : b ≡ true → BodyAt k s (record { at = 1; seps = k })
+    unfolding startOf dirOf
+    plain-rooted y = record { place = rw (f, sym e ∙ y); by = rw f }
+
+    module _ (n : b ≡ false) (c : Bool) (g : c ≡ dotAt k s 0) where
+      pub plain-dotted : c ≡ true → BodyAt k s (record { at = 1; seps = k })
+      unfolding startOf dirOf
+      plain-dotted y = record { place = rw (f, sym e ∙ n, sym g ∙ y); by = rw f }
+
+      pub plain-bare : c ≡ false → BodyAt k s (record { at = 0; seps = k })
+      unfolding startOf dirOf
+      plain-bare y = record { place = rw (f, sym e ∙ n, sym g ∙ y); by = rw f }
+
+  module _ (w : k ≡ Windows) (h : drive s ≡ true) (b : Bool) (e : b ≡ sepAt k s 2) where
+    pub drive-rooted : b ≡ true → BodyAt k s (record { at = 3; seps = k })
+    unfolding startOf dirOf
+    drive-rooted y = record { place = rw (on-disk k s w h, sym e ∙ y); by = rw (on-disk k s w h) }
+
+    pub drive-bare : b ≡ false → BodyAt k s (record { at = 2; seps = k })
+    unfolding startOf dirOf
+    drive-bare n = record { place = rw (on-disk k s w h, sym e ∙ n); by = rw (on-disk k s w h) }
+
+pub ruleset bodies = (begun-body, plain-rooted, plain-dotted, plain-bare, drive-rooted, drive-bare, unix-plain, verbatim-plain, windows-plain, on-drive)
+
 -- ---- the head's elements
 
 prefix-long : (p : Parsed) (a e : ℕ) → length (prefixPart p a) ≡ length (prefixPart p e)
@@ -339,6 +374,26 @@ module _ (k : Seps) (s : List ℕ) (h : Start) (o : OpenAt k s h) where
 
   pub total-of-list : (r : ℕ) → CountAt (wholeOf h s) r → CountAt (listOf k s) r
   total-of-list r c = rw (← whole-list) c
+
+-- `last_element`
+module _ (k : Seps) (s : List ℕ) where
+  module _ (w : Body) (o : BodyAt k s w) (p : Piece) (f : LastAt (isSep (w .seps)) (dots (w .seps)) s (w .at) (length s) p) where
+    pub last-begun : LastAt (isSep (startOf k s .seps)) (dots (startOf k s .seps)) s (startOf k s .at) (length s) p
+    last-begun = rw (← o .place, ← o .by) f
+
+    pub last-part : (q : Part) (r : Item) → p ≡ Found q → r ≡ raised (Found q) → r ≡ nthBackOf (listOf k s) 0
+    unfolding listOf
+    last-part q r g z = back-at (startOf k s) s 0 (At q) (rw g at (last-one _ _ s _ _ p last-begun)) q r refl z
+
+    pub last-head : (h : Start) (r : Item) → p ≡ None → OpenAt k s h → r ≡ nthBackOf (headList h) 0 → r ≡ nthBackOf (listOf k s) 0
+    unfolding listOf
+    last-head h r g a z = back-left (startOf k s) s 0 (Left 0) (omega (arith, ap length (last-none last-begun g))) 0 r refl (rw (← a .is) z)
+
+  -- `element_back`
+  pub last-zero : (b : ℕ) (r : Item) → b ≡ 0 → r ≡ nthBackOf (listOf k s) 0 → r ≡ nthBackOf (listOf k s) b
+  last-zero b r e z = rw e z
+
+pub ruleset lasts = (last-part, last-head, last-zero)
 
 -- ---- the tests on the head
 

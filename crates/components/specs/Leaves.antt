@@ -6,6 +6,7 @@ use lib.ListN.{length}
 use Rattle.octets.specs.declared.Seps.{Seps}
 use Rattle.parts.specs.declared.Element.{Element}
 use Rattle.components.specs.declared.Start.{Start}
+use Rattle.components.specs.declared.Body.{Body}
 use Rattle.prefixes.specs.declared.Parsed.{Parsed}
 use Rattle.components.specs.declared.Dir.{Dir}
 use Rattle.components.specs.List.{innerSeps, dirLen, startOf}
@@ -19,6 +20,11 @@ pub record OpenAt (k : Seps) (s : List ℕ) (r : Start) : Type 0 where
   pub is : r ≡ startOf k s
   pub low : r .end ≤ r .at
   pub high : r .at ≤ length s
+
+-- r is where the body of s starts, and what separates in it
+pub record BodyAt (k : Seps) (s : List ℕ) (r : Body) : Type 0 where
+  pub place : r .at ≡ startOf k s .at
+  pub by : r .seps ≡ startOf k s .seps
 
 -- r counts the list l, with room for one more
 pub record CountAt (l : List Element) (r : ℕ) : Type 0 where

@@ -16,7 +16,7 @@ ghost use Rattle.prefixes.specs.declared.Parsed.the-variants.{Nothing};
 ghost use Rattle.prefixes.specs.Prefix.{drive, prefixIn};
 ghost use Rattle.parts.specs.Elements.{nthOf, nthBackOf};
 ghost use Rattle.components.specs.List.{dotAt, sepAt, innerSeps, prefixSeps, prefixDir, behindPrefix, dirOf, dirLen, dirPart, prefixPart, headList, wholeOf, listOf, isDisk, isRoot, hasRoot, wantsPrefix, isAbsolute};
-ghost use Rattle.components.specs.Leaves.{startWith, OpenAt, CountAt};
+ghost use Rattle.components.specs.Leaves.{startWith, OpenAt, BodyAt, CountAt};
 
 // What document 01's second step finds behind the prefix: nothing, a separator, a root without a byte of its own, a dot.
 pub enum Dir {
@@ -31,6 +31,12 @@ pub struct Start {
     pub prefix: Parsed,
     pub end: usize,
     pub dir: Dir,
+    pub at: usize,
+    pub seps: Seps,
+}
+
+// Where the body starts, and what separates in it: all that its last part asks for, and little enough for two registers.
+pub struct Body {
     pub at: usize,
     pub seps: Seps,
 }
@@ -205,6 +211,66 @@ pub fn begin(k: Seps, s: &[u8]) -> Start
     }
 }
 
+// The body of a path that has no prefix: a root or a lone dot ahead of it is one byte.
+fn plain_body(k: Seps, s: &[u8]) -> Body
+    requires { ⌜ prefixIn k (now s) ≡ Nothing ⌝ }
+    ensures { λ r. ⌜ BodyAt k (now (s .entry)) r ⌝ }
+{
+    if sep_at(k, s, 0) {
+        return Body { at: 1, seps: k };
+    }
+    if dot_at(k, s, 0) {
+        return Body { at: 1, seps: k };
+    }
+    Body { at: 0, seps: k }
+}
+
+// The body of any path.
+fn begun_body(k: Seps, s: &[u8]) -> Body
+    ensures { λ r. ⌜ BodyAt k (now (s .entry)) r ⌝ }
+{
+    let h = begin(k, s);
+    let at = h.at;
+    let seps = h.seps;
+    Body { at, seps }
+}
+
+// The body of a path on a drive.
+fn drive_body(k: Seps, s: &[u8]) -> Body
+    requires { ⌜ (k ≡ Windows) × (drive (now s) ≡ true) ⌝ }
+    ensures { λ r. ⌜ BodyAt k (now (s .entry)) r ⌝ }
+{
+    if sep_at(k, s, 2) {
+        return Body { at: 3, seps: k };
+    }
+    Body { at: 2, seps: k }
+}
+
+// The body of a Windows path, told as its start is.
+fn windows_body(k: Seps, s: &[u8]) -> Body
+    requires { ⌜ k ≡ Windows ⌝ }
+    ensures { λ r. ⌜ BodyAt k (now (s .entry)) r ⌝ }
+{
+    if prefixes::is_drive(s) {
+        return drive_body(k, s);
+    }
+    if sep_at(k, s, 0) {
+        return begun_body(k, s);
+    }
+    plain_body(k, s)
+}
+
+// Where the body starts, for callers that need nothing of the head.
+pub fn body_in(k: Seps, s: &[u8]) -> Body
+    ensures { λ r. ⌜ BodyAt k (now (s .entry)) r ⌝ }
+{
+    match k {
+        Seps::Unix => plain_body(k, s),
+        Seps::Windows => windows_body(k, s),
+        Seps::Verbatim => plain_body(k, s),
+    }
+}
+
 fn prefix_count(p: Parsed) -> usize
     ensures { λ r. ⌜ r ≡ length (prefixPart p 0) ⌝ }
 {
@@ -334,10 +400,30 @@ pub fn element(k: Seps, s: &[u8], f: usize) -> Item
     element_of(h, s, f)
 }
 
+// The last element of a path's list: most often a part, for which no head is needed.
+fn last_element(k: Seps, s: &[u8]) -> Item
+    ensures { λ r. ⌜ r ≡ nthBackOf (listOf k (now (s .entry))) 0 ⌝ }
+{
+    let w = body_in(k, s);
+    let inner = w.seps;
+    let at = w.at;
+    let p = parts::last(inner, s, at, s.len());
+    match p {
+        Piece::Nothing => {
+            let h = begin(k, s);
+            head_back(h, 0)
+        }
+        Piece::Found(q) => parts::lifted(Piece::Found(q)),
+    }
+}
+
 // The element of a path's list that has b others behind it.
 pub fn element_back(k: Seps, s: &[u8], b: usize) -> Item
     ensures { λ r. ⌜ r ≡ nthBackOf (listOf k (now (s .entry))) b ⌝ }
 {
+    if b == 0 {
+        return last_element(k, s);
+    }
     let h = begin(k, s);
     element_back_of(h, s, b)
 }

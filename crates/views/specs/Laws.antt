@@ -38,9 +38,10 @@ use Rattle.parts.specs.Laws.{last-none, last-found, back-last, back-on, back-pa
 use Rattle.components.specs.declared.Dir.{Dir}
 use Rattle.components.specs.declared.Dir.the-variants.{Bare, Root, Implied, Dot as Lone}
 use Rattle.components.specs.declared.Start.{Start}
+use Rattle.components.specs.declared.Body.{Body as Within}
 use Rattle.components.specs.List.{sepAt, dotAt, prefixDir, behindPrefix, dirOf, dirLen, startOf, prefixPart, dirPart, headList, bodyList, wholeOf, listOf, isDisk}
-use Rattle.components.specs.Leaves.{OpenAt}
-use Rattle.components.specs.Laws.{dot-past, whole-list}
+use Rattle.components.specs.Leaves.{OpenAt, BodyAt}
+use Rattle.components.specs.Laws.{dot-past, whole-list, open-start, last-begun}
 use Rattle.views.specs.declared.Reached.{Reached}
 use Rattle.views.specs.declared.Reached.the-variants.{Body, Head}
 use Rattle.cursors.specs.Rest.{viewOf, span, onDisk, isBare, dotted, behindDot, leftEnd, emptyAt, restOf}
@@ -396,37 +397,49 @@ kind-named DotDot = refl
 kind-named Name = refl
 
 module _ (k : Seps) (s : List ℕ) (h : Start) (o : OpenAt k s h) (p : Piece) (f : LastAt (isSep (h .seps)) (dots (h .seps)) s (h .at) (length s) p) where
-  pub name-none : p ≡ None → NameAt k s None
+  none-named : p ≡ None → NameAt k s None
   unfolding lastName leftOf headList
-  name-none g = record { is = rw (whole-left k s h o, last-none f g, append-nil) (sym (head-unnamed (h .prefix) (h .dir) (h .end))); spans = tt }
+  none-named g = record { is = rw (whole-left k s h o, last-none f g, append-nil) (sym (head-unnamed (h .prefix) (h .dir) (h .end))); spans = tt }
 
   module _ (q : Part) (g : p ≡ Found q) (b : Bool) (n : b ≡ isName (q .kind)) where
     the-last : nthBackOf (listOf k s) 0 ≡ Here (lift q)
     the-last = rw (whole-left k s h o) (back-last (leftOf h s (length s)) (headList h ++ within (isSep (h .seps)) (dots (h .seps)) s (h .at) (q .start)) (lift q) (parted k s h o (length s) (within (isSep (h .seps)) (dots (h .seps)) s (h .at) (q .start)) (lift q) (last-found f g .is)))
 
-    pub name-is : b ≡ true → NameAt k s (Found q)
+    is-named : b ≡ true → NameAt k s (Found q)
     unfolding lastName
-    name-is y =
+    is-named y =
         let t = last-found f g in
         record { is = rw (the-last, kind-named (q .kind), ← n, y); spans = (omega arith, omega arith, omega arith, t .room) }
 
-    pub name-not : b ≡ false → NameAt k s None
+    not-named : b ≡ false → NameAt k s None
     unfolding lastName
-    name-not y = record { is = rw (the-last, kind-named (q .kind), ← n, y); spans = tt }
+    not-named y = record { is = rw (the-last, kind-named (q .kind), ← n, y); spans = tt }
 
     -- `base_len`
     pub base-name : (r : ℕ) → b ≡ true → CutAt (dotted h s) (leftOf h s (q .start)) s r → BaseAt k s r
     unfolding parentOf told guard
     base-name r y t =
-        let e : lastName k s ≡ Here (lift q) = sym (name-is y .is) in
+        let e : lastName k s ≡ Here (lift q) = sym (is-named y .is) in
         let v : seen 0 r ≡ restBack k s 1 = rw (the-last, kind-leaves (q .kind)) at (parent-part k s h o p f q r g t .is) in
         record { is = rw (e, ← v); inside = t .inside }
 
     pub base-not : b ≡ false → BaseAt k s (length s)
-    base-not y = let e : lastName k s ≡ Missing = sym (name-not y .is) in record { is = rw e; inside = omega arith }
+    base-not y = let e : lastName k s ≡ Missing = sym (not-named y .is) in record { is = rw e; inside = omega arith }
 
   pub base-none : p ≡ None → BaseAt k s (length s)
-  base-none g = let e : lastName k s ≡ Missing = sym (name-none g .is) in record { is = rw e; inside = omega arith }
+  base-none g = let e : lastName k s ≡ Missing = sym (none-named g .is) in record { is = rw e; inside = omega arith }
+
+-- `name_part`, by the body alone
+module _ (k : Seps) (s : List ℕ) (w : Within) (o : BodyAt k s w) (p : Piece) (f : LastAt (isSep (w .seps)) (dots (w .seps)) s (w .at) (length s) p) where
+  pub name-none : p ≡ None → NameAt k s None
+  name-none g = none-named k s (startOf k s) (open-start k s) p (last-begun k s w o p f) g
+
+  module _ (q : Part) (g : p ≡ Found q) (b : Bool) (n : b ≡ isName (q .kind)) where
+    pub name-is : b ≡ true → NameAt k s (Found q)
+    name-is y = is-named k s (startOf k s) (open-start k s) p (last-begun k s w o p f) q g b n y
+
+    pub name-not : b ≡ false → NameAt k s None
+    name-not y = not-named k s (startOf k s) (open-start k s) p (last-begun k s w o p f) q g b n y
 
 -- ---- `last_dot`
 

@@ -170,9 +170,9 @@ fn is_name(k: Kind) -> bool
 pub fn name_part(k: Seps, s: &[u8]) -> Piece
     ensures { λ r. ⌜ NameAt k (now (s .entry)) r ⌝ }
 {
-    let h = components::begin(k, s);
-    let inner = h.seps;
-    let at = h.at;
+    let w = components::body_in(k, s);
+    let inner = w.seps;
+    let at = w.at;
     let p = parts::last(inner, s, at, s.len());
     match p {
         Piece::Nothing => Piece::Nothing,
