@@ -2,8 +2,8 @@
 use Prim.Native.Nat.{ℕ, zero, suc, _+_, _-_, _<_, _≤_, zero-le}
 use mathlib.Core.Path.{_≡_, refl, sym, ap, _∙_}
 use mathlib.Core.List.{List, [], _∷_, _++_, append-assoc, append-nil}
-use mathlib.Core.Bool.{Bool, true, false}
-use native.Mathlib.Nat.{le-of-suc-le-suc, not-suc-le-zero}
+use mathlib.Core.Bool.{Bool, true, false, cond}
+use native.Mathlib.Nat.{le-of-suc-le-suc, not-suc-le-zero, add-sub-of-le}
 use native.Mathlib.Numerals.{add-one}
 use native.Mathlib.Omega.{arith}
 use lib.ListN.{length, take, drop, set, getD, length-append, length-drop, drop-of-length-le, take-append-drop}
@@ -55,6 +55,35 @@ copied (a ∷ s) (x ∷ b) (suc i) h k = ap (λ (l : List ℕ). a ∷ l) (copied
 pub over-copy : (s b : List ℕ) (i : ℕ) → i < length s → i < length b → set (over (take i s) b) i (getD s i 0) ≡ over (take (i + 1) s) b
 over-copy s b i h k = rw add-one (copied s b i h k)
 
+pub over-over : (r s b : List ℕ) → over (r ++ s) (over r b) ≡ over (r ++ s) b
+unfolding over
+over-over r s b = simp (length-append, drop-append-add, drop-drop)
+
+pub take-over : (r b : List ℕ) (n : ℕ) → length r ≡ n → take n (over r b) ≡ r
+unfolding over
+take-over r b n h = take-at r (drop (length r) b) n h
+
+pub over-take : (b : List ℕ) (n : ℕ) → n ≤ length b → b ≡ over (take n b) b
+unfolding over
+over-take b n h = rw (length-take-le n b h, take-append-drop)
+
+take-over-le : (s b : List ℕ) (i m : ℕ) → i ≤ m → m ≤ length s → take i (over (take m s) b) ≡ take i s
+unfolding over
+take-over-le s b i m h l = take-append-le i (take m s) _ (omega (arith, length-take-le m s l)) ∙ take-take i m s h
+
+-- a block of s at i, where what stands before goes at least so far, and not further than the block
+pub over-block : (s b w after : List ℕ) (i m : ℕ) → w ≡ over (take m s) b → i ≤ m → m ≤ i + 16 → m ≤ length s → after ≡ over (take i w ++ take 16 (drop i s)) w → after ≡ over (take (i + 16) s) b
+over-block s b w after i m ew h k l ea =
+    let front : take i w ≡ take i s = rw ew (take-over-le s b i m h l) in
+    let more : take (i + 16) s ≡ take m s ++ take (i + 16 - m) (drop m s) = rw (← take-add m (i + 16 - m) s, add-sub-of-le k) refl in
+    ea ∙ rw (front, ← take-add i 16 s, more, ew) (over-over (take m s) (take (i + 16 - m) (drop m s)) b)
+
+-- the last block: it ends where s ends
+pub block-last : (s b w after : List ℕ) (i : ℕ) → w ≡ over (take i s) b → length s - 16 ≤ i → i ≤ length s → 16 ≤ length s → after ≡ over (take (length s - 16) w ++ take 16 (drop (length s - 16) s)) w → after ≡ over s b
+block-last s b w after i ew h k l ea =
+    let m : length s - 16 + 16 ≡ length s = omega arith in
+    over-block s b w after (length s - 16) i ew h (omega arith) k ea ∙ rw (m, take-length s)
+
 -- w is a buffer with r written over b; its part behind r was lent, and came back with s written over it
 pub over-lent : (r s b w part : List ℕ) (n : ℕ) → n ≡ length r → w ≡ over r b → part ≡ over s (midOf n (length w - n) w) → putMid n (length w - n) w part ≡ over (r ++ s) b
 over-lent r s b w part n en ew ep =
@@ -75,6 +104,39 @@ pub filled : {n : ℕ} {r b after : List ℕ} → length r ≤ length b → n �
 unfolding answered left
 filled h en ea = record { says = simp (le-leb _ _ h, en); leaves = simp (le-leb _ _ h, ea); within = rw (ea, en, length-over _ _ h) h }
 
+-- two lists with a byte between them or none: d says which, and g is the byte's length
+gap-length : (d : Bool) (c : ℕ) → length (cond d (c ∷ []) []) ≡ cond d 1 0
+gap-length true c = refl
+gap-length false c = refl
+
+pub gap-one : (b w : List ℕ) (d : Bool) (n c : ℕ) → d ≡ true → w ≡ over (take n b ++ (c ∷ [])) b → w ≡ over (take n b ++ cond d (c ∷ []) []) b
+gap-one b w d n c h e = rw h e
+
+pub gap-one-fits : (d : Bool) (n l : ℕ) → d ≡ true → n + cond d 1 0 ≤ l → n < l
+gap-one-fits d n l h k = omega (arith, rw h at k)
+
+pub gap-none : (b : List ℕ) (d : Bool) (n c : ℕ) → d ≡ false → n + cond d 1 0 ≤ length b → b ≡ over (take n b ++ cond d (c ∷ []) []) b
+gap-none b d n c h k = rw (h, append-nil) (over-take b n (omega (arith, rw h at k)))
+
+module _ (p q b : List ℕ) (d : Bool) (c g : ℕ) (e : g ≡ cond d 1 0) where
+  laid-length : length ((p ++ cond d (c ∷ []) []) ++ q) ≡ length p + g + length q
+  laid-length = simp (length-append, gap-length, e)
+
+  pub gap-fits : (l : ℕ) → length p + g + length q ≤ l → length p + cond d 1 0 ≤ l
+  gap-fits l h = rw (← e) (omega arith)
+
+  pub laid-room : (a : View) → length b < length p + g + length q → a ≡ refusedView Room → Wrote (result ((p ++ cond d (c ∷ []) []) ++ q)) a b b
+  laid-room a h f = rw f (no-room (rw laid-length h))
+
+  pub laid : (w v part : List ℕ) → length p + g + length q ≤ length b → w ≡ over p b → v ≡ over (take (length p) w ++ cond d (c ∷ []) []) w → part ≡ over q (midOf (length p + g) (length v - (length p + g)) v) → Wrote (result ((p ++ cond d (c ∷ []) []) ++ q)) (seen 0 (length p + g + length q)) b (putMid (length p + g) (length v - (length p + g)) v part)
+  laid w v part h ew ev ep =
+      let t : take (length p) w ≡ p = rw ew (take-over p b (length p) refl) in
+      let f : v ≡ over (p ++ cond d (c ∷ []) []) b = ev ∙ rw (t, ew, over-over) in
+      let n : length p + g ≡ length (p ++ cond d (c ∷ []) []) = simp (length-append, gap-length, e) in
+      filled (rw laid-length h) (sym laid-length) (over-lent (p ++ cond d (c ∷ []) []) q b v part (length p + g) n f ep)
+
+pub ruleset gaps = (gap-one, gap-one-fits, gap-none, gap-fits, laid-room, laid)
+
 -- w is written from the front, n bytes of it so far; the next piece of it is x
 module _ (w x r : List ℕ) (n : ℕ) (h : n ≤ length w) (e : drop n w ≡ x ++ r) where
   pub next-take : take (n + length x) w ≡ take n w ++ x
@@ -86,13 +148,17 @@ module _ (w x r : List ℕ) (n : ℕ) (h : n ≤ length w) (e : drop n w ≡ x +
   pub next-fits : n + length x ≤ length w
   next-fits = omega (arith, simp (length-drop, length-append) at (ap length e))
 
-pub over-take : (b : List ℕ) (n : ℕ) → n ≤ length b → b ≡ over (take n b) b
-unfolding over
-over-take b n h = rw (length-take-le n b h, take-append-drop)
-
 -- the part of b from n on was lent, and came back with s written over it
 pub over-push : (s b part : List ℕ) (n : ℕ) → part ≡ over s (midOf n (length b - n) b) → n ≤ length b → putMid n (length b - n) b part ≡ over (take n b ++ s) b
 over-push s b part n e h = over-lent (take n b) s b b part n (sym (length-take-le n b h)) (over-take b n h) e
+
+-- 16 bytes of s from i on, that passed through a block z
+pub block-done : (s b t z part : List ℕ) (i : ℕ) → t ≡ over (take (i + 16 - i) (drop i s)) z → part ≡ over t (midOf i (length b - i) b) → length z ≡ 16 → i + 16 ≤ length s → i ≤ length b → putMid i (length b - i) b part ≡ over (take i b ++ take 16 (drop i s)) b
+block-done s b t z part i et ep lz h k =
+    let w : i + 16 - i ≡ 16 = omega arith in
+    let l : length (take 16 (drop i s)) ≡ length z = length-take-le 16 (drop i s) (rw (length-drop i s) (omega arith)) ∙ sym lz in
+    let e : t ≡ take 16 (drop i s) = et ∙ rw w (over-whole (take 16 (drop i s)) z l) in
+    over-push (take 16 (drop i s)) b part i (ep ∙ rw e) k
 
 -- a store at n
 pub over-set : (b : List ℕ) (n v : ℕ) → n < length b → set b n v ≡ over (take n b ++ (v ∷ [])) b
@@ -100,14 +166,6 @@ over-set b n v h =
     let l : length (take n b) ≡ n = length-take-le n b (omega arith) in
     let e : set (over (take n b) b) (length (take n b)) v ≡ over (take n b ++ (v ∷ [])) b = over-store (take n b) b v (omega arith) in
     rw (l, ← over-take b n (omega arith)) at e
-
-pub over-over : (r s b : List ℕ) → over (r ++ s) (over r b) ≡ over (r ++ s) b
-unfolding over
-over-over r s b = simp (length-append, drop-append-add, drop-drop)
-
-pub take-over : (r b : List ℕ) (n : ℕ) → length r ≡ n → take n (over r b) ≡ r
-unfolding over
-take-over r b n h = take-at r (drop (length r) b) n h
 
 -- a byte at j, and then x behind it
 pub two-pushes : (b one two x : List ℕ) (j m y : ℕ) → one ≡ over (take j b ++ (y ∷ [])) b → two ≡ over (take m one ++ x) one → m ≡ j + 1 → j ≤ length b → two ≡ over (take j b ++ (y ∷ x)) b

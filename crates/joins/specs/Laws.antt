@@ -3,10 +3,10 @@ use Prim.Native.Nat.{ℕ, _+_, _-_, _^_, _<_, _≤_}
 use native.Mathlib.Omega.{arith}
 use native.Mathlib.Nat.{sub-zero}
 use mathlib.Core.Path.{_≡_, refl, sym, _∙_}
-use mathlib.Core.Bool.{Bool, true, false, false≢true}
-use mathlib.Core.List.{List, [], _∷_, _++_}
+use mathlib.Core.Bool.{Bool, true, false, cond, false≢true}
+use mathlib.Core.List.{List, [], _∷_, _++_, append-nil}
 use lib.ListN.{length, take}
-use lib.Seq.{length-take-le}
+use lib.Seq.{length-take-le, take-length}
 use lib.Dec.{eqb}
 use borrow.Author.Tests.{eq-eqb, ne-eqb}
 use Rattle.octets.specs.Class.{limit}
@@ -26,7 +26,7 @@ use Rattle.cursors.specs.Rest.{onDisk}
 use Rattle.seams.specs.Seam.{sepOf, wants, glued, seamed}
 use Rattle.verbatim.specs.Verbatim.{verbatimIn, verbatimJoin}
 use Rattle.joins.specs.Join.{hasPrefix, replaced, mended, mereDisk, parted, joined}
-use Rattle.joins.specs.Leaves.{replacedBy, mendedBy, mereBy, partedBy, behind}
+use Rattle.joins.specs.Leaves.{replacedBy, mendedBy, mereBy, partedBy, behind, keptUnix}
 
 -- ---- in Unix mode no path has a prefix, and join is one path set behind another
 unix-root : (q : List ℕ) → hasRoot Unix q ≡ sepAt Unix q 0
@@ -101,32 +101,39 @@ module _ (g : Start) (q : List ℕ) where
 
 -- `join_root`, `join_behind`
 module _ (p q : List ℕ) (a : View) (b after : List ℕ) where
-  pub root-done : (e : ℕ) → Wrote (result (take (e - 0) p ++ q)) a b after → Wrote (result (take e p ++ q)) a b after
-  root-done e w = rw sub-zero at w
+  pub root-close : (e : ℕ) → Wrote (result ((take (e - 0) p ++ []) ++ q)) a b after → Wrote (result (take e p ++ q)) a b after
+  root-close e w = rw (sub-zero, append-nil) at w
 
-  module _ (k : Seps) (d : Bool) where
-    pub behind-parted : (c : ℕ) → d ≡ true → c ≡ sepOf k → Wrote (result (p ++ (c ∷ []) ++ q)) a b after → Wrote (result (behind k p d q)) a b after
-    unfolding behind
-    behind-parted c o e w = rw (o, ← e) w
+  pub behind-laid : (k : Seps) (d : Bool) (c : ℕ) → c ≡ sepOf k → Wrote (result ((p ++ cond d (c ∷ []) []) ++ q)) a b after → Wrote (result (behind k p d q)) a b after
+  unfolding behind
+  behind-laid k d c e w = split d (λ t. rw (t, ← e) (rw t at w)) (λ t. rw t (rw (t, append-nil) at w))
 
-    pub behind-close : d ≡ false → Wrote (result (p ++ q)) a b after → Wrote (result (behind k p d q)) a b after
-    unfolding behind
-    behind-close o w = rw o w
-
-pub root-small : (p q : List ℕ) (e : ℕ) → e ≤ length p → length p ≤ limit → length q ≤ limit → 0 + length (take (e - 0) p) + length q < 2 ^ 64
+pub root-small : (p q : List ℕ) (e : ℕ) → e ≤ length p → length p ≤ limit → length q ≤ limit → length (take (e - 0) p) + 1 + length q < 2 ^ 64
 root-small p q e h a b = rw (sub-zero, length-take-le e p h) (omega arith)
 
-pub ruleset tests = (mended-empty, mended-is, mere-not, mere-is, parted-mere, parted-wants, root-done, root-small, behind-parted, behind-close)
+-- `kept_unix`
+module _ (p q : List ℕ) (r : Bool) (f : r ≡ sepAt Unix q 0) where
+  pub kept-none : r ≡ true → 0 ≡ keptUnix p q
+  unfolding keptUnix
+  kept-none y = rw (← f, y)
 
--- `join_unix`
-module _ (p q : List ℕ) (a : View) (b after : List ℕ) (r : Bool) (f : r ≡ sepAt Unix q 0) where
-  pub unix-whole : r ≡ true → Wrote (result q) a b after → Wrote (result (seamed Unix p q)) a b after
-  unfolding seamed
-  unix-whole y w = rw (← f, y) w
+  pub kept-all : r ≡ false → length p ≡ keptUnix p q
+  unfolding keptUnix
+  kept-all y = rw (← f, y)
 
-  pub unix-behind : (d : Bool) → r ≡ false → d ≡ wants Unix p → Wrote (result (behind Unix p d q)) a b after → Wrote (result (seamed Unix p q)) a b after
-  unfolding seamed glued behind
-  unix-behind d y g w = rw (← f, y, ← g) (split d (λ t. rw t (rw t at w)) (λ t. rw t (rw t at w)))
+pub ruleset tests = (mended-empty, mended-is, mere-not, mere-is, parted-mere, parted-wants, root-close, root-small, behind-laid, kept-none, kept-all)
+
+-- `join_unix`: e is how much of p stays, d whether a separator follows
+module _ (p q : List ℕ) (e : ℕ) (f : e ≡ keptUnix p q) where
+  pub unix-laid : (d : Bool) (a : View) (b after : List ℕ) → d ≡ wants Unix (take (e - 0) p) → Wrote (result ((take (e - 0) p ++ cond d (47 ∷ []) []) ++ q)) a b after → Wrote (result (joined Unix p q)) a b after
+  unfolding seamed glued keptUnix wants
+  unix-laid d a b after g w =
+      rw joined-unix
+      (split (sepAt Unix q 0)
+      (λ t. rw t (rw (g, f, t) at w))
+      (λ t. rw t (split (wants Unix p)
+      (λ y. rw y (rw (g, sub-zero, f, t, take-length, y) at w))
+      (λ y. rw y (rw (g, sub-zero, f, t, take-length, y, append-nil) at w)))))
 
 -- `join_any`: r, m, t, d are what the tests answered
 module _ (k : Seps) (p q : List ℕ) (g : Start) (o : OpenAt k p g) (m : Bool) (j : m ≡ mendedBy g q) where
@@ -176,7 +183,7 @@ module _ (k : Seps) (q : List ℕ) (h : Start) (u : OpenAt k q h) (r : Bool) (f 
   root-in p g o = omega (arith, o .low, o .high)
 
 -- `join_in`
-pub join-unix : (k : Seps) (p q : List ℕ) (a : View) (b after : List ℕ) → k ≡ Unix → Wrote (result (seamed Unix p q)) a b after → Wrote (result (joined k p q)) a b after
-join-unix k p q a b after e w = rw (e, joined-unix p q) w
+pub join-unix : (k : Seps) (p q : List ℕ) (a : View) (b after : List ℕ) → k ≡ Unix → Wrote (result (joined Unix p q)) a b after → Wrote (result (joined k p q)) a b after
+join-unix k p q a b after e w = rw e w
 
-pub ruleset joins = (unix-whole, unix-behind, join-whole, join-verbatim, join-bare, join-mended, join-rooted, join-behind, root-in, join-unix)
+pub ruleset joins = (unix-laid, join-whole, join-verbatim, join-bare, join-mended, join-rooted, join-behind, root-in, join-unix)

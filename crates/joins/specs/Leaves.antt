@@ -7,7 +7,7 @@ use lib.Dec.{eqb}
 use Rattle.octets.specs.declared.Seps.{Seps}
 use Rattle.octets.specs.declared.Seps.the-variants.{Unix, Windows, Verbatim as OnlyBack}
 use Rattle.components.specs.declared.Start.{Start}
-use Rattle.components.specs.List.{isRoot}
+use Rattle.components.specs.List.{sepAt, isRoot}
 use Rattle.cursors.specs.Rest.{onDisk}
 use Rattle.seams.specs.Seam.{sepOf, wants}
 use Rattle.verbatim.specs.Verbatim.{verbatimIn}
@@ -32,3 +32,7 @@ partedBy k g p = cond (mereBy g p) false (wants k p)
 
 unfoldable pub behind : Seps → List ℕ → Bool → List ℕ → List ℕ
 behind k p apart q = cond apart (p ++ (sepOf k ∷ []) ++ q) (p ++ q)
+
+-- how much of p stays in front of q in Unix mode
+unfoldable pub keptUnix : List ℕ → List ℕ → ℕ
+keptUnix p q = cond (sepAt Unix q 0) 0 (length p)

@@ -11,9 +11,8 @@ ghost use Rattle.octets.specs.Class.{limit};
 ghost use Rattle.octets.specs.declared.Seps.the-variants.{Unix};
 ghost use Rattle.answers.specs.Outcome.{result};
 ghost use Rattle.answers.specs.Written.{Wrote};
-ghost use Rattle.seams.specs.Seam.{seamed};
 ghost use Rattle.joins.specs.Join.{hasPrefix, joined};
-ghost use Rattle.joins.specs.Leaves.{replacedBy, mendedBy, mereBy, partedBy, behind};
+ghost use Rattle.joins.specs.Leaves.{replacedBy, mendedBy, mereBy, partedBy, behind, keptUnix};
 
 fn has_prefix(p: Parsed) -> bool
     ensures { λ r. ⌜ r ≡ hasPrefix p ⌝ }
@@ -53,7 +52,7 @@ fn join_root(p: &[u8], e: usize, q: &[u8], out: &mut [u8]) -> View
     requires { ⌜ (length (now p) ≤ limit) × (length (now q) ≤ limit) × (e ≤ length (now p)) ⌝ }
     ensures { λ r. ⌜ Wrote (result (take e (now (p .entry)) ++ now (q .entry))) r (now (out .entry)) (now (out .exit)) ⌝ }
 {
-    buffers::lay(b"", &p[0..e], q, out)
+    buffers::lay(&p[0..e], false, 92, q, out)
 }
 
 // Whether p, which starts with g, is merely a Disk prefix.
@@ -83,32 +82,38 @@ fn join_behind(k: Seps, p: &[u8], apart: bool, q: &[u8], out: &mut [u8]) -> View
     requires { ⌜ (length (now p) ≤ limit) × (length (now q) ≤ limit) ⌝ }
     ensures { λ r. ⌜ Wrote (result (behind k (now (p .entry)) apart (now (q .entry)))) r (now (out .entry)) (now (out .exit)) ⌝ }
 {
-    if apart {
-        let one = [seams::sep_of(k)];
-        return buffers::lay(p, &one, q, out);
+    buffers::lay(p, apart, seams::sep_of(k), q, out)
+}
+
+// How much of p stays in front of q: nothing where q is absolute.
+fn kept_unix(p: &[u8], q: &[u8]) -> usize
+    ensures { λ r. ⌜ r ≡ keptUnix (now (p .entry)) (now (q .entry)) ⌝ }
+    ensures { λ r. ⌜ r ≤ length (now (p .entry)) ⌝ }
+{
+    if components::sep_at(Seps::Unix, q, 0) {
+        return 0;
     }
-    buffers::lay(b"", p, q, out)
+    p.len()
 }
 
 // In Unix mode no path has a prefix: two bytes decide.
-fn join_unix(p: &[u8], q: &[u8], out: &mut [u8]) -> View
+pub fn join_unix(p: &[u8], q: &[u8], out: &mut [u8]) -> View
     requires { ⌜ (length (now p) ≤ limit) × (length (now q) ≤ limit) ⌝ }
-    ensures { λ r. ⌜ Wrote (result (seamed Unix (now (p .entry)) (now (q .entry)))) r (now (out .entry)) (now (out .exit)) ⌝ }
+    ensures { λ r. ⌜ Wrote (result (joined Unix (now (p .entry)) (now (q .entry)))) r (now (out .entry)) (now (out .exit)) ⌝ }
 {
-    if components::sep_at(Seps::Unix, q, 0) {
-        return buffers::lay(b"", b"", q, out);
-    }
-    let apart = seams::wants_sep(Seps::Unix, p);
-    join_behind(Seps::Unix, p, apart, q, out)
+    let e = kept_unix(p, q);
+    let b = &p[0..e];
+    let apart = seams::wants_sep(Seps::Unix, b);
+    buffers::lay(b, apart, 47, q, out)
 }
 
-fn join_any(k: Seps, p: &[u8], q: &[u8], out: &mut [u8]) -> View
+pub fn join_any(k: Seps, p: &[u8], q: &[u8], out: &mut [u8]) -> View
     requires { ⌜ (length (now p) ≤ limit) × (length (now q) ≤ limit) ⌝ }
     ensures { λ r. ⌜ Wrote (result (joined k (now (p .entry)) (now (q .entry)))) r (now (out .entry)) (now (out .exit)) ⌝ }
 {
     let h = components::begin(k, q);
     if replaces(k, h) {
-        return buffers::lay(b"", b"", q, out);
+        return buffers::lay(b"", false, 92, q, out);
     }
     let g = components::begin(k, p);
     if mends(g, q) {

@@ -6,13 +6,14 @@ use mir.Val.{Fits}
 use native.Mathlib.Omega.{arith}
 use native.Mathlib.Numerals.{add-one}
 use mathlib.Core.Path.{_≡_, refl, sym, ap, _∙_}
-use mathlib.Core.List.{List, [], _∷_, _++_}
+use mathlib.Core.List.{List, [], _∷_, _++_, append-nil}
 use mathlib.Core.Bool.{Bool, true, false, cond, not}
 use lib.ListN.{length, getD, take, drop, drop-of-length-le}
 use lib.Seq.{take-length, length-take-le, drop-cons}
 use borrow.Author.Tests.{eq-eqb, ne-eqb}
 use Rattle.octets.specs.Class.{isSep, limit}
 use Rattle.octets.specs.declared.Seps.{Seps}
+use Rattle.octets.specs.declared.Seps.the-variants.{Unix}
 use Rattle.answers.specs.declared.Reply.the-variants.{Absent, Name}
 use Rattle.answers.specs.declared.View.{View}
 use Rattle.answers.specs.Reply.{refusedView, seen}
@@ -51,6 +52,9 @@ module _ (k : Seps) (p q : List ℕ) (r : ℕ) (b : BaseAt k p r) where
   unfolding baseOf
   set-is a x y w = rw (sub-zero, base-is p r (restBack k p 1 .len) (lastName k p) (b .is)) at w
 
+  pub set-unix : (a : View) (x y : List ℕ) → k ≡ Unix → Wrote (result (joined Unix (take (r - 0) p) q)) a x y → Wrote (result (joined k (baseOf k p) q)) a x y
+  set-unix a x y e w = set-is a x y (rw e w)
+
 -- `holds_sep`
 module _ (sep : ℕ → Bool) (e : List ℕ) where
   pub holds-start : holds sep e ≡ holdsFrom sep e 0
@@ -73,9 +77,9 @@ module _ (sep : ℕ → Bool) (e : List ℕ) where
 
 -- `put_extension`
 module _ (p e : List ℕ) (a : View) (x y : List ℕ) where
-  pub put-none : length e ≡ 0 → Wrote (result p) a x y → Wrote (result (pointed p e)) a x y
+  pub put-none : length e ≡ 0 → Wrote (result ((p ++ []) ++ [])) a x y → Wrote (result (pointed p e)) a x y
   unfolding pointed
-  put-none z w = rw (eq-eqb (length e) 0 z) w
+  put-none z w = rw (eq-eqb (length e) 0 z) (rw (append-nil, append-nil) at w)
 
   pub put-some : (length e ≡ 0 → ⊥) → Wrote (result (p ++ (46 ∷ []) ++ e)) a x y → Wrote (result (pointed p e)) a x y
   unfolding pointed
@@ -115,4 +119,4 @@ module _ (k : Seps) (p e : List ℕ) (b : Bool) (t : b ≡ holds (isSep k) e) wh
         unfolding extended guard
         extension-set a x y o = rw (← t, m, stem-of, add-sub-of-le (s .low)) (rw sub-zero at o)
 
-pub ruleset setting = (base-short, set-is, holds-start, holds-not, holds-here, holds-on, put-none, put-some, name-refused, stem-absent, stem-in, stem-inside, stem-short, extension-set)
+pub ruleset setting = (base-short, set-is, set-unix, holds-start, holds-not, holds-here, holds-on, put-none, put-some, name-refused, stem-absent, stem-in, stem-inside, stem-short, extension-set)

@@ -17,7 +17,12 @@ pub fn set_file_name_in(k: Seps, p: &[u8], q: &[u8], out: &mut [u8]) -> View
     ensures { λ r. ⌜ Wrote (result (joined k (baseOf k (now (p .entry))) (now (q .entry)))) r (now (out .entry)) (now (out .exit)) ⌝ }
 {
     let e = views::base_len(k, p);
-    joins::join_in(k, &p[0..e], q, out)
+    let b = &p[0..e];
+    match k {
+        Seps::Unix => joins::join_unix(b, q, out),
+        Seps::Windows => joins::join_any(k, b, q, out),
+        Seps::Verbatim => joins::join_any(k, b, q, out),
+    }
 }
 
 // Whether a separator stands in e.
@@ -57,7 +62,7 @@ fn put_extension(p: &[u8], e: &[u8], out: &mut [u8]) -> View
     ensures { λ r. ⌜ Wrote (result (pointed (now (p .entry)) (now (e .entry)))) r (now (out .entry)) (now (out .exit)) ⌝ }
 {
     if e.len() == 0 {
-        return buffers::lay(b"", b"", p, out);
+        return buffers::lay(p, false, 46, b"", out);
     }
-    buffers::lay(p, b".", e, out)
+    buffers::lay(p, true, 46, e, out)
 }

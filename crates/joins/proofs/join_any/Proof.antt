@@ -10,7 +10,6 @@ join-any-spec =
     (λ c κs. search (needs, joins))
     (λ c κs. search (needs, joins))
     (λ c. search (needs, joins))
-    (λ c. search (needs, joins))
     (λ c κs. search (needs, joins))
     (λ c. search (needs, joins))
     (λ c. search (needs, joins))

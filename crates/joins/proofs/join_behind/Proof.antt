@@ -8,11 +8,6 @@ join-behind-spec =
     tie.close
     (tie.spec
     (λ c κs. search (needs, tests))
-    (λ c. search (needs, tests))
-    (λ c κs. search (needs, tests))
-    (λ c. search (needs, tests))
-    (λ c. search (needs, tests))
-    (λ c. search (needs, tests))
     (λ c κs. search (needs, tests))
     (λ c. search (needs, tests))
     (λ c. search (needs, tests)))

@@ -10,7 +10,6 @@ join-root-spec =
     (λ c. search (needs, tests))
     (λ c. search (needs, tests))
     (λ c. search (needs, tests))
-    (λ c. search (needs, tests))
     (λ c κs. search (needs, tests))
     (λ c. search (needs, tests))
     (λ c. search (needs, tests)))

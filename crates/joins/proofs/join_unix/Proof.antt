@@ -10,8 +10,6 @@ join-unix-spec =
     (λ c κs. search (needs, joins))
     (λ c. search (needs, joins))
     (λ c. search (needs, joins))
-    (λ c κs. search (needs, joins))
-    (λ c. search (needs, joins))
     (λ c. search (needs, joins))
     (λ c κs. search (needs, joins))
     (λ c κs. search (needs, joins))

@@ -8,9 +8,7 @@ put-extension-spec =
     tie.close
     (tie.spec
     (λ c. search (needs, setting))
-    (λ c. search (needs, setting))
     (λ c κs. search (needs, setting))
-    (λ c. search (needs, setting))
     (λ c. search (needs, setting))
     (λ c. search (needs, setting))
     (λ c κs. search (needs, setting))
