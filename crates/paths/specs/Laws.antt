@@ -1,18 +1,24 @@
 -- Laws of the public calls: one a way through each.
-use Prim.Native.Nat.{ℕ, _<_, _≤_}
+use Prim.Native.Nat.{ℕ, _*_, _^_, _<_, _≤_}
+use native.Mathlib.Omega.{arith}
 use mathlib.Core.Path.{_≡_, refl, sym, _∙_}
 use mathlib.Core.List.{List}
-use lib.ListN.{length}
+use mathlib.Core.Bool.{Bool, true, false}
+use lib.ListN.{length, getD}
+use borrow.Author.Tests.{ne-eqb}
 use Rattle.octets.specs.Class.{limit, sepsOf}
-use Rattle.octets.specs.declared.Seps.{Seps}
+use Rattle.octets.specs.declared.Seps.the-variants.{Windows}
 use Rattle.answers.specs.declared.Reply.the-variants.{Done, Mode, Length, Absent}
 use Rattle.answers.specs.Outcome.{told, guard}
 use Rattle.answers.specs.Laws.{no-mode, too-long, all-well}
 use Rattle.prefixes.specs.declared.Prefix.{Prefix}
+use Rattle.prefixes.specs.declared.Prefix.the-variants.{Disk}
 use Rattle.prefixes.specs.declared.Parsed.{Parsed}
 use Rattle.prefixes.specs.declared.Parsed.the-variants.{Nothing, Is}
-use Rattle.prefixes.specs.Prefix.{prefixIn, lenOf}
-use Rattle.prefixes.specs.Laws.{len-small}
+use Rattle.prefixes.specs.Prefix.{capital, drive, prefixOf, lenOf}
+use Rattle.prefixes.specs.Laws.{drive-long, drive-disk, len-small}
+use Rattle.components.specs.List.{sepAt}
+use Rattle.components.specs.Laws.{windows-plain}
 use Rattle.paths.specs.declared.Prefixed.{Prefixed}
 use Rattle.paths.specs.Prefix.{refusedPrefix, prefixAsked, prefixCall}
 
@@ -26,17 +32,39 @@ module _ (m : ℕ) (s : List ℕ) (x : Prefixed) where
   unfolding prefixCall
   prefix-long e g h = too-long refusedPrefix _ x m g s e h
 
-  module _ (k : Seps) (p : Parsed) (g : m ≤ 1) (h : length s ≤ limit) (f : k ≡ sepsOf m) (e : p ≡ prefixIn k s) where
-    well : x ≡ told refusedPrefix (prefixAsked p) → x ≡ told refusedPrefix (prefixCall m s)
-    unfolding prefixCall
-    well w = all-well refusedPrefix _ x m g s (w ∙ rw (e, f)) h
+  module _ (g : m ≤ 1) (h : length s ≤ limit) where
+    pub prefix-unix : m ≡ 0 → x ≡ refusedPrefix Absent → x ≡ told refusedPrefix (prefixCall m s)
+    unfolding prefixCall prefixAsked told guard sepsOf
+    prefix-unix e w = all-well refusedPrefix _ x m g s (w ∙ rw e) h
 
-    pub prefix-absent : p ≡ Nothing → x ≡ refusedPrefix Absent → x ≡ told refusedPrefix (prefixCall m s)
+    pub prefix-windows : (m ≡ 0 → ⊥) → x ≡ told refusedPrefix (prefixAsked (prefixOf s)) → x ≡ told refusedPrefix (prefixCall m s)
+    unfolding prefixCall sepsOf
+    prefix-windows n w = all-well refusedPrefix _ x m g s (w ∙ simp (ne-eqb m 0 n)) h
+
+-- `windows_prefix`
+module _ (s : List ℕ) where
+  pub told-drive : (d : Bool) (b : ℕ) → d ≡ drive s → d ≡ true → b ≡ capital (getD s 0 0) → record { reply = Done; prefix = Is (Disk b); len = 2 } ≡ told refusedPrefix (prefixAsked (prefixOf s))
+  unfolding prefixAsked told guard
+  told-drive d b e y f = rw (drive-disk s (sym e ∙ y), f)
+
+  pub first-byte : (d : Bool) → d ≡ drive s → d ≡ true → 0 < length s
+  first-byte d e y = omega (arith, drive-long s (sym e ∙ y))
+
+  pub told-bare : (d c : Bool) (x : Prefixed) → d ≡ drive s → d ≡ false → c ≡ sepAt Windows s 0 → c ≡ false → x ≡ refusedPrefix Absent → x ≡ told refusedPrefix (prefixAsked (prefixOf s))
+  unfolding prefixAsked told guard
+  told-bare d c x e n f m w = w ∙ rw (windows-plain Windows s d c refl e n f m)
+
+  module _ (p : Parsed) (e : p ≡ prefixOf s) where
+    pub told-none : (x : Prefixed) → p ≡ Nothing → x ≡ refusedPrefix Absent → x ≡ told refusedPrefix (prefixAsked (prefixOf s))
     unfolding prefixAsked told guard
-    prefix-absent n w = well (w ∙ rw n)
+    told-none x n w = w ∙ rw (← e, n)
 
-pub prefix-done : (m : ℕ) (s : List ℕ) (k : Seps) (p : Parsed) (q : Prefix) (n : ℕ) → m ≤ 1 → length s ≤ limit → k ≡ sepsOf m → p ≡ prefixIn k s → p ≡ Is q → n ≡ lenOf q → record { reply = Done; prefix = Is q; len = n } ≡ told refusedPrefix (prefixCall m s)
-unfolding prefixAsked told guard
-prefix-done m s k p q n g h f e i l = well m s _ k p g h f e (rw (i, l))
+    module _ (q : Prefix) (f : p ≡ Is q) where
+      pub told-found : (n : ℕ) → n ≡ lenOf q → record { reply = Done; prefix = Is q; len = n } ≡ told refusedPrefix (prefixAsked (prefixOf s))
+      unfolding prefixAsked told guard
+      told-found n l = rw (← e, f, l)
 
-pub ruleset calls = (len-small, prefix-mode, prefix-long, prefix-absent, prefix-done)
+      pub found-small : length s * 1 < 2 ^ 63 → lenOf q < 2 ^ 63
+      found-small w = len-small Windows s p q e f w
+
+pub ruleset calls = (prefix-mode, prefix-long, prefix-unix, prefix-windows, told-drive, first-byte, told-bare, told-none, told-found, found-small)

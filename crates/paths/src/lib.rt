@@ -9,11 +9,13 @@ mod writes;
 
 pub use absolutes::absolute;
 use answers::Reply;
+use octets::Seps;
 pub use pairs::compare;
 pub use pairs::ends_with;
 pub use pairs::starts_with;
 pub use pairs::strip_prefix;
 use prefixes::Parsed;
+use prefixes::Prefix;
 pub use steps::Cursor;
 pub use steps::Stepped;
 pub use steps::Taken;
@@ -29,7 +31,8 @@ pub use writes::set_extension;
 pub use writes::set_file_name;
 ghost use mathlib.Core.Path.{_≡_};
 ghost use Rattle.answers.specs.Outcome.{told};
-ghost use Rattle.paths.specs.Prefix.{refusedPrefix, prefixCall};
+ghost use Rattle.prefixes.specs.Prefix.{prefixOf};
+ghost use Rattle.paths.specs.Prefix.{refusedPrefix, prefixAsked, prefixCall};
 
 // The prefix of a path, and how many bytes it takes.
 pub struct Prefixed {
@@ -48,6 +51,32 @@ fn refuse_prefix(r: Reply) -> Prefixed
     }
 }
 
+// The prefix of a Windows path. A drive, and that there is none, are told without a call: these are the commonest.
+fn windows_prefix(path: &[u8]) -> Prefixed
+    ensures { λ a. ⌜ a ≡ told refusedPrefix (prefixAsked (prefixOf (now (path .entry)))) ⌝ }
+{
+    if prefixes::is_drive(path) {
+        let d = prefixes::to_capital(path[0]);
+        return Prefixed {
+            reply: Reply::Done,
+            prefix: Parsed::Is(Prefix::Disk(d)),
+            len: 2,
+        };
+    }
+    if components::sep_at(Seps::Windows, path, 0) {
+        let p = prefixes::parse_prefix(path);
+        return match p {
+            Parsed::Nothing => refuse_prefix(Reply::Absent),
+            Parsed::Is(q) => Prefixed {
+                reply: Reply::Done,
+                prefix: Parsed::Is(q),
+                len: prefixes::prefix_len(q),
+            },
+        };
+    }
+    refuse_prefix(Reply::Absent)
+}
+
 pub fn prefix(mode: usize, path: &[u8]) -> Prefixed
     ensures { λ a. ⌜ a ≡ told refusedPrefix (prefixCall mode (now (path .entry))) ⌝ }
 {
@@ -57,13 +86,8 @@ pub fn prefix(mode: usize, path: &[u8]) -> Prefixed
     if path.len() > octets::LIMIT {
         return refuse_prefix(Reply::Length);
     }
-    let p = prefixes::prefix_in(octets::seps_of(mode), path);
-    match p {
-        Parsed::Nothing => refuse_prefix(Reply::Absent),
-        Parsed::Is(q) => Prefixed {
-            reply: Reply::Done,
-            prefix: Parsed::Is(q),
-            len: prefixes::prefix_len(q),
-        },
+    if mode == 0 {
+        return refuse_prefix(Reply::Absent);
     }
+    windows_prefix(path)
 }
