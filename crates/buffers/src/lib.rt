@@ -53,13 +53,13 @@ pub fn copy(dst: &mut [u8], src: &[u8])
     copy_block(dst, src, e);
 }
 
-// src at n in out, behind what is written; the place behind it.
+// src at n in out, behind what is written; the place behind it. What is pushed is mostly a name, too short for blocks.
 pub fn push(out: &mut [u8], n: usize, src: &[u8]) -> usize
     requires { ⌜ n + length (now src) ≤ length (now out) ⌝ }
     ensures { λ r. ⌜ r ≡ n + length (now (src .entry)) ⌝ }
     ensures { λ _. ⌜ now (out .exit) ≡ over (take n (now (out .entry)) ++ now (src .entry)) (now (out .entry)) ⌝ }
 {
-    copy(&mut out[n..], src);
+    copy_bytes(&mut out[n..], src);
     n + src.len()
 }
 
