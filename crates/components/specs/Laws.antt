@@ -385,6 +385,12 @@ module _ (k : Seps) (s : List ℕ) where
     unfolding listOf
     last-part q r g z = back-at (startOf k s) s 0 (At q) (rw g at (last-one _ _ s _ _ p last-begun)) q r refl z
 
+    pub last-behind : (q : Part) → p ≡ Found q → length (headList (startOf k s)) < length (listOf k s)
+    unfolding listOf wholeOf
+    last-behind q g =
+        let t : Here (lift q) ≡ nthBackOf (bodyList (startOf k s) s) 0 = rw (body-within (startOf k s) s) (rw g at (last-one _ _ s _ _ p last-begun)) in
+        omega (arith, length-append (headList (startOf k s)) (bodyList (startOf k s) s), back-inside-of (bodyList (startOf k s) s) 0 {p = lift q} (sym t))
+
     pub last-head : (h : Start) (r : Item) → p ≡ None → OpenAt k s h → r ≡ nthBackOf (headList h) 0 → r ≡ nthBackOf (listOf k s) 0
     unfolding listOf
     last-head h r g a z = back-left (startOf k s) s 0 (Left 0) (omega (arith, ap length (last-none last-begun g))) 0 r refl (rw (← a .is) z)

@@ -7,10 +7,10 @@ use native.Mathlib.Numerals.{add-one}
 use native.Mathlib.Nat.{not-suc-le-zero, le-of-suc-le-suc}
 use mathlib.Core.Path.{_≡_, refl, sym, ap, _∙_}
 use mathlib.Core.List.{List, [], _∷_, _++_, append-assoc}
-use mathlib.Core.Bool.{Bool, true, false, cond}
+use mathlib.Core.Bool.{Bool, true, false, cond, false≢true}
 use lib.ListN.{length, take, drop, length-append, take-append-drop}
 use lib.Seq.{take-length, drop-drop, length-take-le}
-use borrow.Author.Tests.{lt-ltb, le-ltb}
+use borrow.Author.Tests.{lt-ltb, le-ltb, ne-eqb}
 use Rattle.octets.specs.Class.{isSep}
 use Rattle.octets.specs.Segment.{lead}
 use Rattle.octets.specs.Laws.{split}
@@ -25,18 +25,21 @@ use Rattle.parts.specs.declared.Sort.{Sort}
 use Rattle.parts.specs.declared.Sort.the-variants.{Skip, Is as Sorted}
 use Rattle.parts.specs.Body.{sortOf, put, rest, from, dots}
 use Rattle.parts.specs.Elements.{nthOf, nthBackOf, startOr, endOr, Upto}
-use Rattle.parts.specs.Steps.{lift, raised, within}
-use Rattle.parts.specs.Laws.{upto-nth, nth-behind, nth-inside, back-behind, back-inside-of}
+use Rattle.parts.specs.Steps.{lift, raised, within, LastAt}
+use Rattle.parts.specs.Laws.{upto-nth, nth-behind, nth-inside, back-behind, back-inside-of, last-found}
+use Rattle.prefixes.specs.declared.Parsed.{Parsed}
+use Rattle.prefixes.specs.declared.Parsed.the-variants.{Nothing as Bare, Is as Prefixed}
 use Rattle.components.specs.declared.Start.{Start}
-use Rattle.components.specs.List.{headList, bodyList, wholeOf, listOf, startOf}
-use Rattle.components.specs.Leaves.{OpenAt, CountAt}
-use Rattle.components.specs.Laws.{whole-list, whole-body, head-few}
+use Rattle.components.specs.declared.Body.{Body}
+use Rattle.components.specs.List.{prefixPart, dirPart, headList, bodyList, wholeOf, listOf, startOf}
+use Rattle.components.specs.Leaves.{OpenAt, BodyAt, CountAt}
+use Rattle.components.specs.Laws.{whole-list, whole-body, head-few, open-start, last-part, last-behind}
 use Rattle.cursors.specs.declared.Span.{Span}
 use Rattle.cursors.specs.declared.Seen.{Seen}
 use Rattle.cursors.specs.declared.Seen.the-variants.{Unknown, Is}
 use Rattle.cursors.specs.declared.Remains.{Remains}
 use Rattle.cursors.specs.declared.Remains.the-variants.{Beyond as TooMany, Is as Rests}
-use Rattle.cursors.specs.Rest.{span, leftEnd, rightEnd, dotted, behindDot, restOf, restAsked}
+use Rattle.cursors.specs.Rest.{span, leftEnd, rightEnd, onDisk, dotted, behindDot, restOf, restAsked}
 use Rattle.cursors.specs.Leaves.{In, SeenAt}
 use Rattle.cursors.specs.Laws.{left-zero, left-later, dot-far, dot-plain, back-small}
 
@@ -174,5 +177,51 @@ unfolding restAsked
 seen-is k s h f b r w o t g =
     let u = rw g at (t .is) in
     rw (← whole-list k s h o) (simp (le-ltb (length (wholeOf h s)) (f + b) (u .1)) (rw (u .0, ← o .is)))
+
+-- `rest_whole`: where a part stands behind the head, a drive with its dot is not all there is
+disk-some : (p : Parsed) (e : ℕ) → onDisk p ≡ true → 1 ≤ length (prefixPart p e)
+disk-some Bare e y = absurd (false≢true y)
+disk-some (Prefixed p) e y = omega arith
+
+dotted-head : (h : Start) (s : List ℕ) → dotted h s ≡ true → 1 ≤ length (headList h)
+unfolding dotted headList
+dotted-head h s y =
+    split (onDisk (h .prefix))
+    (λ t. omega (arith, length-append (prefixPart (h .prefix) (h .end)) (dirPart (h .dir) (h .end)), disk-some (h .prefix) (h .end) t))
+    (λ t. absurd (false≢true (rw t at y)))
+
+dot-over-all : (d : Bool) (n f b : ℕ) → f < 2 → (b + 1 ≡ n → ⊥) → behindDot d n f b ≡ false
+unfolding behindDot
+dot-over-all d n f b h z = split d (λ t. rw (t, lt-ltb f 2 h) (simp (ne-eqb (b + 1) n z))) (λ t. rw t)
+
+ends-last : (d : Bool) (l : List Element) (b : ℕ) → behindDot d (length l) 0 b ≡ false → b < length l → span 0 (rightEnd l b) ≡ restOf d l 0 b
+unfolding restOf
+ends-last d l b e h = rw (e, ← left-zero l 0 refl) (simp (lt-ltb (0 + b) (length l) (omega arith)))
+
+module _ (k : Seps) (s : List ℕ) (w : Body) (o : BodyAt k s w) (p : Piece) (f : LastAt (isSep (w .seps)) (dots (w .seps)) s (w .at) (length s) p) (q : Part) (g : p ≡ Found q) where
+  last-here : nthBackOf (listOf k s) 0 ≡ Here (lift q)
+  last-here = sym (last-part k s w o p f q (Here (lift q)) g refl)
+
+  not-alone : behindDot (dotted (startOf k s) s) (length (listOf k s)) 0 0 ≡ false
+  not-alone =
+      split (dotted (startOf k s) s)
+      (λ t. dot-over-all _ (length (listOf k s)) 0 0 (omega arith) (λ z. omega (arith, dotted-head (startOf k s) s t, last-behind k s w o p f q g)))
+      (λ t. sym (dot-plain _ (length (listOf k s)) 0 0 t))
+
+  all-seen : SeenAt (startOf k s) s 0 0 (Is (span 0 (q .start + q .len)))
+  unfolding listOf
+  all-seen = record { is = (rw (← ends-last _ (listOf k s) 0 not-alone (omega (arith, last-behind k s w o p f q g)), last-here), omega arith) }
+
+  pub all-fits : Fits w64 (q .start + q .len)
+  all-fits = let t = last-found f g in record { fits = omega (arith, t .high, t .inside, t .room) }
+
+  pub all-is : Rests (span 0 (q .start + q .len)) ≡ restAsked k s 0 0
+  all-is = seen-is k s (startOf k s) 0 0 _ _ (open-start k s) all-seen refl
+
+-- `rest_in`
+pub rest-zero : (k : Seps) (s : List ℕ) (f b : ℕ) (r : Remains) → f ≡ 0 → b ≡ 0 → r ≡ restAsked k s 0 0 → r ≡ restAsked k s f b
+rest-zero k s f b r z y e = rw (z, y) e
+
+pub ruleset alls = (all-fits, all-is, rest-zero)
 
 pub ruleset ends = (head-low, between-fits, between-is, back-is, second-fits, second-is, plain-is, seen-none, seen-one, seen-is)

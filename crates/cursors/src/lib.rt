@@ -334,8 +334,8 @@ fn rest_counted(k: Seps, h: Start, s: &[u8], f: usize, b: usize) -> Remains
     Remains::Is(r)
 }
 
-// The part of the path that no step has taken, where no more were taken than there are.
-pub fn rest_in(k: Seps, s: &[u8], f: usize, b: usize) -> Remains
+// The rest, from where the body starts.
+fn rest_begun(k: Seps, s: &[u8], f: usize, b: usize) -> Remains
     ensures { λ r. ⌜ r ≡ restAsked k (now (s .entry)) f b ⌝ }
 {
     let h = components::begin(k, s);
@@ -344,4 +344,33 @@ pub fn rest_in(k: Seps, s: &[u8], f: usize, b: usize) -> Remains
         Seen::Is(w) => Remains::Is(w),
         Seen::Unknown => rest_counted(k, h, s, f, b),
     }
+}
+
+// The rest where nothing was taken: all up to the end of the last part, if there is one.
+fn rest_whole(k: Seps, s: &[u8]) -> Remains
+    ensures { λ r. ⌜ r ≡ restAsked k (now (s .entry)) 0 0 ⌝ }
+{
+    let w = components::body_in(k, s);
+    let inner = w.seps;
+    let at = w.at;
+    let p = parts::last(inner, s, at, s.len());
+    match p {
+        Piece::Nothing => rest_begun(k, s, 0, 0),
+        Piece::Found(q) => Remains::Is(Span {
+            start: 0,
+            end: q.start + q.len,
+        }),
+    }
+}
+
+// The part of the path that no step has taken, where no more were taken than there are.
+pub fn rest_in(k: Seps, s: &[u8], f: usize, b: usize) -> Remains
+    ensures { λ r. ⌜ r ≡ restAsked k (now (s .entry)) f b ⌝ }
+{
+    if f == 0 {
+        if b == 0 {
+            return rest_whole(k, s);
+        }
+    }
+    rest_begun(k, s, f, b)
 }

@@ -1,6 +1,5 @@
 use borrow.Author.Needs.{needs}
-use Rattle.cursors.specs.Laws.{cursors}
-use Rattle.cursors.specs.Ends.{ends}
+use Rattle.cursors.specs.Ends.{alls}
 use Rattle.cursors.proofs.rest_in.Statement.{statement}
 use Rattle.cursors.proofs.rest_in.Tie as tie
 
@@ -8,10 +7,7 @@ pub rest-in-spec : {M : Type 1} → statement M
 rest-in-spec =
     tie.close
     (tie.spec
-    (λ c κs. search (needs, cursors, ends))
-    (λ c κs. search (needs, cursors, ends))
-    (λ c. search (needs, cursors, ends))
-    (λ c. search (needs, cursors, ends))
-    (λ c κs. search (needs, cursors, ends))
-    (λ c. search (needs, cursors, ends))
-    (λ c. search (needs, cursors, ends)))
+    (λ c κs. search (needs, alls))
+    (λ c. search (needs, alls))
+    (λ c κs. search (needs, alls))
+    (λ c. search (needs, alls)))
