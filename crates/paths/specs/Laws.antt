@@ -5,9 +5,9 @@ use mathlib.Core.Path.{_≡_, refl, sym, _∙_}
 use mathlib.Core.List.{List}
 use mathlib.Core.Bool.{Bool, true, false}
 use lib.ListN.{length, getD}
-use borrow.Author.Tests.{ne-eqb}
 use Rattle.octets.specs.Class.{limit, sepsOf}
-use Rattle.octets.specs.declared.Seps.the-variants.{Windows}
+use Rattle.octets.specs.declared.Seps.{Seps}
+use Rattle.octets.specs.declared.Seps.the-variants.{Unix, Windows, Verbatim as OnlyBack}
 use Rattle.answers.specs.declared.Reply.the-variants.{Done, Mode, Length, Absent}
 use Rattle.answers.specs.Outcome.{told, guard}
 use Rattle.answers.specs.Laws.{no-mode, too-long, all-well}
@@ -15,7 +15,7 @@ use Rattle.prefixes.specs.declared.Prefix.{Prefix}
 use Rattle.prefixes.specs.declared.Prefix.the-variants.{Disk}
 use Rattle.prefixes.specs.declared.Parsed.{Parsed}
 use Rattle.prefixes.specs.declared.Parsed.the-variants.{Nothing, Is}
-use Rattle.prefixes.specs.Prefix.{capital, drive, prefixOf, lenOf}
+use Rattle.prefixes.specs.Prefix.{capital, drive, prefixOf, prefixIn, lenOf}
 use Rattle.prefixes.specs.Laws.{drive-long, drive-disk, len-small}
 use Rattle.components.specs.List.{sepAt}
 use Rattle.components.specs.Laws.{windows-plain}
@@ -32,14 +32,21 @@ module _ (m : ℕ) (s : List ℕ) (x : Prefixed) where
   unfolding prefixCall
   prefix-long e g h = too-long refusedPrefix _ x m g s e h
 
-  module _ (g : m ≤ 1) (h : length s ≤ limit) where
-    pub prefix-unix : m ≡ 0 → x ≡ refusedPrefix Absent → x ≡ told refusedPrefix (prefixCall m s)
-    unfolding prefixCall prefixAsked told guard sepsOf
-    prefix-unix e w = all-well refusedPrefix _ x m g s (w ∙ rw e) h
+  module _ (k : Seps) (g : m ≤ 1) (h : length s ≤ limit) (f : k ≡ sepsOf m) where
+    well : x ≡ told refusedPrefix (prefixAsked (prefixIn k s)) → x ≡ told refusedPrefix (prefixCall m s)
+    unfolding prefixCall
+    well w = all-well refusedPrefix _ x m g s (w ∙ rw f) h
 
-    pub prefix-windows : (m ≡ 0 → ⊥) → x ≡ told refusedPrefix (prefixAsked (prefixOf s)) → x ≡ told refusedPrefix (prefixCall m s)
-    unfolding prefixCall sepsOf
-    prefix-windows n w = all-well refusedPrefix _ x m g s (w ∙ simp (ne-eqb m 0 n)) h
+    pub prefix-unix : k ≡ Unix → x ≡ refusedPrefix Absent → x ≡ told refusedPrefix (prefixCall m s)
+    unfolding prefixAsked told guard
+    prefix-unix e w = well (w ∙ rw e)
+
+    pub prefix-back : k ≡ OnlyBack → x ≡ refusedPrefix Absent → x ≡ told refusedPrefix (prefixCall m s)
+    unfolding prefixAsked told guard
+    prefix-back e w = well (w ∙ rw e)
+
+    pub prefix-windows : k ≡ Windows → x ≡ told refusedPrefix (prefixAsked (prefixOf s)) → x ≡ told refusedPrefix (prefixCall m s)
+    prefix-windows e w = well (w ∙ rw e)
 
 -- `windows_prefix`
 module _ (s : List ℕ) where
@@ -67,4 +74,4 @@ module _ (s : List ℕ) where
       pub found-small : length s * 1 < 2 ^ 63 → lenOf q < 2 ^ 63
       found-small w = len-small Windows s p q e f w
 
-pub ruleset calls = (prefix-mode, prefix-long, prefix-unix, prefix-windows, told-drive, first-byte, told-bare, told-none, told-found, found-small)
+pub ruleset calls = (prefix-mode, prefix-long, prefix-unix, prefix-back, prefix-windows, told-drive, first-byte, told-bare, told-none, told-found, found-small)

@@ -86,8 +86,9 @@ pub fn prefix(mode: usize, path: &[u8]) -> Prefixed
     if path.len() > octets::LIMIT {
         return refuse_prefix(Reply::Length);
     }
-    if mode == 0 {
-        return refuse_prefix(Reply::Absent);
+    match octets::seps_of(mode) {
+        Seps::Unix => refuse_prefix(Reply::Absent),
+        Seps::Windows => windows_prefix(path),
+        Seps::Verbatim => refuse_prefix(Reply::Absent),
     }
-    windows_prefix(path)
 }
