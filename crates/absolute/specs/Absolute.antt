@@ -2,12 +2,13 @@
 use Prim.Native.Nat.{ℕ, _-_}
 use mathlib.Core.List.{List, [], _∷_}
 use mathlib.Core.Bool.{Bool, true, false, not, cond}
-use lib.ListN.{length, take, drop}
+use lib.ListN.{length}
 use Rattle.octets.specs.declared.Seps.the-variants.{Unix}
 use Rattle.answers.specs.Outcome.{Outcome, result, given, based}
 use Rattle.parts.specs.declared.Component.{Component}
 use Rattle.parts.specs.declared.Component.the-variants.{Prefix, RootDir, CurDir, ParentDir, Normal}
 use Rattle.parts.specs.declared.Element.{Element}
+use Rattle.parts.specs.Elements.{bytesOf}
 use Rattle.components.specs.List.{sepAt, listOf, isAbsolute}
 use Rattle.seams.specs.Seam.{glued, seamed}
 
@@ -26,10 +27,6 @@ leftOut RootDir = true
 leftOut CurDir = true
 leftOut ParentDir = false
 leftOut Normal = false
-
--- a component's bytes
-abbrev pub bytesOf : List ℕ → Element → List ℕ
-bytesOf s x = take (x .len) (drop (x .start) s)
 
 -- "join the components one by one", of the path s to what stands there, t
 unfoldable pub oneByOne : List ℕ → List ℕ → List Element → List ℕ

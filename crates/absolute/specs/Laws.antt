@@ -22,6 +22,7 @@ use Rattle.answers.specs.Outcome.{result}
 use Rattle.answers.specs.Written.{over, Wrote}
 use Rattle.buffers.specs.Laws.{length-over, over-take, over-over, take-over, no-room, filled, Front, front-all, front-room, front-push, front-at, write-stops, write-goes}
 use Rattle.prefixes.specs.declared.Parsed.the-variants.{Nothing as Bare}
+use Rattle.parts.specs.Elements.{bytesOf}
 use Rattle.parts.specs.declared.Component.{Component}
 use Rattle.parts.specs.declared.Component.the-variants.{Prefix, RootDir, CurDir, ParentDir, Normal}
 use Rattle.parts.specs.declared.Element.{Element}
@@ -40,7 +41,7 @@ use Rattle.components.specs.List.{sepAt, dirOf, startOf, dirPart, headList, bod
 use Rattle.components.specs.Leaves.{OpenAt}
 use Rattle.seams.specs.Seam.{wants, glued, seamed}
 use Rattle.seams.specs.Laws.{glued-open, glued-shut, seamed-relative}
-use Rattle.absolute.specs.Absolute.{twoSlashes, startFor, leftOut, bytesOf, oneByOne, ends, closed, finished, absoluteOf}
+use Rattle.absolute.specs.Absolute.{twoSlashes, startFor, leftOut, oneByOne, ends, closed, finished, absoluteOf}
 use Rattle.absolute.specs.Leaves.{sepIf, tailOf, tailFrom, TailLen, RoomAt}
 
 -- `ends_sep`, `two_slashes`

@@ -8,7 +8,8 @@ use Rattle.octets.specs.Class.{isSep}
 use Rattle.octets.specs.declared.Seps.the-variants.{Unix}
 use Rattle.parts.specs.declared.Element.{Element}
 use Rattle.parts.specs.Body.{from}
-use Rattle.absolute.specs.Absolute.{bytesOf, ends}
+use Rattle.parts.specs.Elements.{bytesOf}
+use Rattle.absolute.specs.Absolute.{ends}
 
 -- a separator, where one is wanted
 abbrev pub sepIf : Bool → List ℕ

@@ -203,22 +203,22 @@ front-push {w} {b} {out} {after} {n} {m} x r f p em =
     record { within = omega arith; room = f .room; long = ap length q ∙ length-over _ _ (omega arith); stands = q; to-come = rw em (next-drop w x r n (f .within) (f .to-come)) }
 
 -- the invariant of a loop that writes w over b from the back: the bytes of w from k on stand in out, and rest is to come before them
-pub record Back (w b rest : List ℕ) (k : ℕ) (out : List ℕ) : Type 0 where
+pub record FromBack (w b rest : List ℕ) (k : ℕ) (out : List ℕ) : Type 0 where
   pub before : k ≤ length w
   pub room : length w ≤ length b
   pub long : length out ≡ length b
   pub stands : out ≡ take k b ++ (drop k w ++ drop (length w) b)
   pub to-come : take k w ≡ rest
 
-pub back-none : (w b : List ℕ) → length w ≤ length b → Back w b w (length w) b
+pub back-none : (w b : List ℕ) → length w ≤ length b → FromBack w b w (length w) b
 back-none w b h = record { before = omega arith; room = h; long = refl; stands = rw (drop-length, take-append-drop); to-come = take-length w }
 
-pub back-all : {w b out : List ℕ} → Back w b [] 0 out → out ≡ over w b
+pub back-all : {w b out : List ℕ} → FromBack w b [] 0 out → out ≡ over w b
 unfolding over
 back-all f = f .stands
 
 -- the piece before is pushed at j
-pub back-push : {w b out after : List ℕ} {k : ℕ} (r x : List ℕ) (j : ℕ) → Back w b (r ++ x) k out → after ≡ over (take j out ++ x) out → k ≡ j + length x → Back w b r j after
+pub back-push : {w b out after : List ℕ} {k : ℕ} (r x : List ℕ) (j : ℕ) → FromBack w b (r ++ x) k out → after ≡ over (take j out ++ x) out → k ≡ j + length x → FromBack w b r j after
 unfolding over
 back-push {w} {b} {out} {after} {k} r x j f p ek =
     let lr : length r ≡ j = omega (arith, length-append r x, ap length (f .to-come), length-take-le k w (f .before)) in

@@ -5,7 +5,7 @@ use mir.Val.{Fits}
 use native.Mathlib.Omega.{arith}
 use mathlib.Core.Path.{_≡_, refl, sym, ap, _∙_}
 use mathlib.Core.List.{List, [], _∷_, _++_}
-use mathlib.Core.Bool.{Bool, true, false, not, cond, false≢true}
+use mathlib.Core.Bool.{Bool, true, false, cond, false≢true}
 use lib.ListN.{length, getD, drop, length-append, List·getD-eq-default}
 use lib.Seq.{take-length}
 use lib.Dec.{eqb, ltb}
@@ -18,8 +18,8 @@ use Rattle.prefixes.specs.declared.Prefix.{Prefix}
 use Rattle.prefixes.specs.declared.Prefix.the-variants.{Verbatim, VerbatimUnc, VerbatimDisk, DeviceNs, Unc, Disk}
 use Rattle.prefixes.specs.declared.Parsed.{Parsed}
 use Rattle.prefixes.specs.declared.Parsed.the-variants.{Nothing, Is}
-use Rattle.prefixes.specs.Prefix.{turned, begins, capital, drive, driveExact, namesOf, verbatimOf, uncOf, isVerbatim, deviceOf, prefixOf, prefixIn, endOfPrefix}
-use Rattle.prefixes.specs.Laws.{by-cond, drive-long, drive-disk, bare-none, end-within}
+use Rattle.prefixes.specs.Prefix.{turned, begins, capital, drive, driveExact, namesOf, verbatimOf, uncOf, isVerbatim, deviceOf, prefixOf, prefixIn, endOfPrefix, hasPrefix, isDisk}
+use Rattle.prefixes.specs.Laws.{by-cond, drive-long, drive-disk, bare-none, end-within, drive-off}
 use Rattle.parts.specs.declared.Component.the-variants.{Prefix as Prefixed, RootDir, CurDir}
 use Rattle.parts.specs.declared.Element.{Element}
 use Rattle.parts.specs.declared.Item.{Item}
@@ -37,7 +37,7 @@ use Rattle.components.specs.declared.Dir.{Dir}
 use Rattle.components.specs.declared.Dir.the-variants.{Bare, Root, Implied, Dot}
 use Rattle.components.specs.declared.Start.{Start}
 use Rattle.components.specs.declared.Body.{Body}
-use Rattle.components.specs.List.{sepAt, dotAt, prefixSeps, innerSeps, prefixDir, behindPrefix, dirOf, dirLen, startOf, prefixPart, dirPart, headList, bodyList, wholeOf, listOf, isDisk, rootless, isRoot, hasRoot, wantsPrefix, isAbsolute}
+use Rattle.components.specs.List.{sepAt, dotAt, prefixSeps, innerSeps, prefixDir, behindPrefix, dirOf, dirLen, startOf, prefixPart, dirPart, headList, bodyList, wholeOf, listOf, rootless, isRoot, hasRoot, wantsPrefix, isAbsolute}
 use Rattle.components.specs.Leaves.{startWith, OpenAt, BodyAt, CountAt}
 
 -- `sep_at`, `dot_at`
@@ -62,7 +62,7 @@ module _ (k : Seps) (s : List ℕ) (i : ℕ) where
   unfolding dotAt
   dot-not h = simp (ne-eqb (getD s i 0) 46 h)
 
-  dot-inside : dotAt k s i ≡ true → i < length s
+  pub dot-inside : dotAt k s i ≡ true → i < length s
   dot-inside h = split (ltb i (length s)) (λ e. ltb-true i (length s) e) (λ e. absurd (false≢true (dot-past (ltb-false i (length s) e) ∙ h)))
 
   module _ (d : getD s i 0 ≡ 46) where
@@ -190,7 +190,7 @@ windows-plain k s b c w e f g h = rw w (bare-none s (sym e ∙ f) (no-begin s (r
 pub on-drive : (s : List ℕ) (b : Bool) → b ≡ drive s → b ≡ true → drive s ≡ true
 on-drive s b e f = sym e ∙ f
 
-pub ruleset heads = (sep-in, sep-past, dot-past, dot-not, dot-end, dot-sep, seps-behind, dir-dot, dir-bare, dir-prefix, dir-root, dir-else, end-within, with-fits, with-is, parsed-small, parsed-open, plain-small, plain-open, drive-some, drive-small, drive-open, unix-plain, verbatim-plain, windows-plain, on-drive)
+pub ruleset heads = (drive-off, sep-in, sep-past, dot-past, dot-not, dot-end, dot-sep, seps-behind, dir-dot, dir-bare, dir-prefix, dir-root, dir-else, end-within, with-fits, with-is, parsed-small, parsed-open, plain-small, plain-open, drive-some, drive-small, drive-open, unix-plain, verbatim-plain, windows-plain, on-drive)
 
 -- `body_in`
 module _ (k : Seps) (s : List ℕ) where
@@ -242,7 +242,7 @@ prefix-few : (p : Parsed) (e : ℕ) → length (prefixPart p e) ≤ 1
 prefix-few Nothing e = omega arith
 prefix-few (Is p) e = omega arith
 
-dir-few : (d : Dir) (e : ℕ) → length (dirPart d e) ≤ 1
+pub dir-few : (d : Dir) (e : ℕ) → length (dirPart d e) ≤ 1
 dir-few Bare e = omega arith
 dir-few Root e = omega arith
 dir-few Implied e = omega arith
@@ -470,13 +470,7 @@ module _ (k : Seps) (s : List ℕ) where
           (λ y. y ∙ sym (rooted-has (prefixIn k s) refl no-drive y))
           (λ n. sym (plain-has (windows-plain k s b (sepAt k s 0) w e h refl n)))
 
--- `wants_prefix`, `is_absolute`
-pub wants-none : (k : Seps) (p : Parsed) → k ≡ Windows → p ≡ Nothing → true ≡ wantsPrefix k p
-wants-none k p e f = rw (e, f)
-
-pub wants-some : (k : Seps) (p : Parsed) (q : Prefix) → k ≡ Windows → p ≡ Is q → false ≡ wantsPrefix k p
-wants-some k p q e f = rw (e, f)
-
+-- `is_absolute`
 module _ (k : Seps) (s : List ℕ) (r : Bool) where
   pub unix-absolute : k ≡ Unix → r ≡ sepAt k s 0 → r ≡ isAbsolute k s
   unfolding isAbsolute
@@ -491,15 +485,15 @@ module _ (k : Seps) (s : List ℕ) (r : Bool) where
     unfolding isAbsolute
     drive-absolute h f = drive-root k s w b e r h f ∙ rw (on-disk k s w (sym e ∙ h), w)
 
-    pub other-absolute : (p : Parsed) → b ≡ false → p ≡ prefixIn k s → r ≡ wantsPrefix k p → not r ≡ isAbsolute k s
+    pub other-absolute : (p : Parsed) → b ≡ false → p ≡ prefixIn k s → r ≡ hasPrefix p → r ≡ isAbsolute k s
     unfolding isAbsolute
-    other-absolute p h f g = rw (g, w) (go p (sym f) (rw (← f) at (no-drive k s w b e h)))
+    other-absolute p h f g = g ∙ rw w (go p (sym f) (rw (← f) at (no-drive k s w b e h)))
       where
-        go : (p : Parsed) → prefixIn k s ≡ p → Rooted p → not (wantsPrefix Windows p) ≡ cond (wantsPrefix Windows (prefixIn Windows s)) false (hasRoot Windows s)
+        go : (p : Parsed) → prefixIn k s ≡ p → Rooted p → hasPrefix p ≡ cond (wantsPrefix Windows (prefixIn Windows s)) false (hasRoot Windows s)
         go Nothing i t = rw (rw w at i)
         go (Is q) i t = rw (rw w at i) (sym (other-has Windows s q (rw w at i) t))
 
-pub ruleset lists = (item-bare, item-root, item-implied, item-dot, count-sum, count-head, head-dir, head-none, head-prefix, head-second, head-third, whole-head, whole-body, total-fits, total-is, back-at, back-left, head-back, head-out, element-is, element-back-is, total-of-list, wants-none, wants-some, on-drive, unix-root, verbatim-root, drive-root, other-root, unix-absolute, verbatim-absolute, drive-absolute, other-absolute)
+pub ruleset lists = (drive-off, item-bare, item-root, item-implied, item-dot, count-sum, count-head, head-dir, head-none, head-prefix, head-second, head-third, whole-head, whole-body, total-fits, total-is, back-at, back-left, head-back, head-out, element-is, element-back-is, total-of-list, on-drive, unix-root, verbatim-root, drive-root, other-root, unix-absolute, verbatim-absolute, drive-absolute, other-absolute)
 
 -- ---- the list lies in the path, and has few elements
 

@@ -11,7 +11,7 @@ use Rattle.prefixes.specs.declared.Prefix.{Prefix}
 use Rattle.prefixes.specs.declared.Prefix.the-variants.{Verbatim, VerbatimUnc, VerbatimDisk, DeviceNs, Unc, Disk}
 use Rattle.prefixes.specs.declared.Parsed.{Parsed}
 use Rattle.prefixes.specs.declared.Parsed.the-variants.{Nothing, Is}
-use Rattle.prefixes.specs.Prefix.{prefixIn, endOfPrefix}
+use Rattle.prefixes.specs.Prefix.{prefixIn, endOfPrefix, hasPrefix, isDisk}
 use Rattle.parts.specs.Body.{dots, from}
 use Rattle.parts.specs.declared.Component.the-variants.{Prefix as Prefixed, RootDir, CurDir}
 use Rattle.parts.specs.declared.Element.{Element}
@@ -102,14 +102,6 @@ unfoldable pub listOf : Seps → List ℕ → List Element
 listOf k s = wholeOf (startOf k s) s
 
 -- "A path has a root if step 2's first case holds or it has a prefix other than Disk."
-abbrev pub isDisk : Prefix → Bool
-isDisk (Verbatim n) = false
-isDisk (VerbatimUnc n) = false
-isDisk (VerbatimDisk d) = false
-isDisk (DeviceNs n) = false
-isDisk (Unc n) = false
-isDisk (Disk d) = true
-
 abbrev pub isRoot : Dir → Bool
 isRoot Bare = false
 isRoot Root = true
@@ -126,8 +118,7 @@ hasRoot k s = cond (isRoot (startOf k s .dir)) true (not (rootless (prefixIn k s
 -- "Absolute: Unix, has a root; Windows, has a root and a prefix."
 abbrev pub wantsPrefix : Seps → Parsed → Bool
 wantsPrefix Unix p = false
-wantsPrefix Windows Nothing = true
-wantsPrefix Windows (Is p) = false
+wantsPrefix Windows p = not (hasPrefix p)
 wantsPrefix OnlyBack p = false
 
 unfoldable pub isAbsolute : Seps → List ℕ → Bool

@@ -8,14 +8,14 @@ use parts::Piece;
 use prefixes::Parsed;
 use prefixes::Prefix;
 ghost use mathlib.Core.Path.{_≡_};
-ghost use mathlib.Core.Bool.{true};
+ghost use mathlib.Core.Bool.{true, false};
 ghost use Prim.Native.Nat.{ℕ, _+_, _^_, _<_, _≤_};
 ghost use lib.ListN.{length};
 ghost use Rattle.octets.specs.declared.Seps.the-variants.{Windows};
 ghost use Rattle.prefixes.specs.declared.Parsed.the-variants.{Nothing};
 ghost use Rattle.prefixes.specs.Prefix.{drive, prefixIn};
 ghost use Rattle.parts.specs.Elements.{nthOf, nthBackOf};
-ghost use Rattle.components.specs.List.{dotAt, sepAt, innerSeps, prefixSeps, prefixDir, behindPrefix, dirOf, dirLen, dirPart, prefixPart, headList, wholeOf, listOf, isDisk, isRoot, hasRoot, wantsPrefix, isAbsolute};
+ghost use Rattle.components.specs.List.{dotAt, sepAt, innerSeps, prefixSeps, prefixDir, behindPrefix, dirOf, dirLen, dirPart, prefixPart, headList, wholeOf, listOf, isRoot, hasRoot, isAbsolute};
 ghost use Rattle.components.specs.Leaves.{startWith, OpenAt, BodyAt, CountAt};
 
 // What document 01's second step finds behind the prefix: nothing, a separator, a root without a byte of its own, a dot.
@@ -176,8 +176,9 @@ fn drive_start(k: Seps, s: &[u8]) -> Start
     start_with(k, p, 2, d)
 }
 
-// The start of any path.
+// The start of a path that is on no drive.
 fn parsed_start(k: Seps, s: &[u8]) -> Start
+    requires { ⌜ drive (now s) ≡ false ⌝ }
     ensures { λ r. ⌜ OpenAt k (now (s .entry)) r ⌝ }
 {
     let p = prefixes::prefix_in(k, s);
@@ -445,19 +446,6 @@ pub fn total(k: Seps, s: &[u8]) -> usize
     total_of(h, s)
 }
 
-pub fn is_disk(p: Prefix) -> bool
-    ensures { λ r. ⌜ r ≡ isDisk p ⌝ }
-{
-    match p {
-        Prefix::Verbatim(_) => false,
-        Prefix::VerbatimUnc(_) => false,
-        Prefix::VerbatimDisk(_) => false,
-        Prefix::DeviceNs(_) => false,
-        Prefix::Unc(_) => false,
-        Prefix::Disk(_) => true,
-    }
-}
-
 pub fn is_root(d: Dir) -> bool
     ensures { λ r. ⌜ r ≡ isRoot d ⌝ }
 {
@@ -490,20 +478,6 @@ pub fn has_root(k: Seps, s: &[u8]) -> bool
     }
 }
 
-// Whether a set of separators asks for a prefix that p does not have.
-fn wants_prefix(k: Seps, p: Parsed) -> bool
-    ensures { λ r. ⌜ r ≡ wantsPrefix k p ⌝ }
-{
-    match k {
-        Seps::Unix => false,
-        Seps::Windows => match p {
-            Parsed::Nothing => true,
-            Parsed::Is(_) => false,
-        },
-        Seps::Verbatim => false,
-    }
-}
-
 // Whether a Windows path is absolute: any prefix but a drive has a root with it.
 fn windows_absolute(k: Seps, s: &[u8]) -> bool
     requires { ⌜ k ≡ Windows ⌝ }
@@ -513,7 +487,7 @@ fn windows_absolute(k: Seps, s: &[u8]) -> bool
         return sep_at(k, s, 2);
     }
     let p = prefixes::prefix_in(k, s);
-    !wants_prefix(k, p)
+    prefixes::has_prefix(p)
 }
 
 pub fn is_absolute(k: Seps, s: &[u8]) -> bool

@@ -15,6 +15,7 @@ use Rattle.octets.specs.Class.{isSep}
 use Rattle.octets.specs.Segment.{lead}
 use Rattle.octets.specs.Laws.{split}
 use Rattle.octets.specs.declared.Seps.{Seps}
+use Rattle.prefixes.specs.Prefix.{onDisk}
 use Rattle.parts.specs.declared.Element.{Element}
 use Rattle.parts.specs.declared.Item.{Item}
 use Rattle.parts.specs.declared.Item.the-variants.{Missing, Here}
@@ -39,7 +40,7 @@ use Rattle.cursors.specs.declared.Seen.{Seen}
 use Rattle.cursors.specs.declared.Seen.the-variants.{Unknown, Is}
 use Rattle.cursors.specs.declared.Remains.{Remains}
 use Rattle.cursors.specs.declared.Remains.the-variants.{Beyond as TooMany, Is as Rests}
-use Rattle.cursors.specs.Rest.{span, leftEnd, rightEnd, onDisk, dotted, behindDot, restOf, restAsked}
+use Rattle.cursors.specs.Rest.{span, leftEnd, rightEnd, dotted, behindDot, restOf, restAsked}
 use Rattle.cursors.specs.Leaves.{In, SeenAt}
 use Rattle.cursors.specs.Laws.{left-zero, left-later, dot-far, dot-plain, back-small}
 

@@ -11,16 +11,15 @@ use lib.Dec.{eqb, ltb}
 use borrow.Author.Tests.{eq-eqb, ne-eqb, lt-ltb, le-ltb, ltb-true, ltb-false, eqb-true, eqb-false}
 use Rattle.octets.specs.Laws.{split}
 use Rattle.octets.specs.declared.Seps.{Seps}
-use Rattle.prefixes.specs.declared.Prefix.{Prefix}
-use Rattle.prefixes.specs.declared.Parsed.{Parsed}
-use Rattle.prefixes.specs.declared.Parsed.the-variants.{Nothing, Is}
+use Rattle.prefixes.specs.declared.Parsed.the-variants.{Nothing}
+use Rattle.prefixes.specs.Prefix.{onDisk}
 use Rattle.parts.specs.declared.Element.{Element}
 use Rattle.parts.specs.declared.Item.{Item}
 use Rattle.parts.specs.declared.Item.the-variants.{Missing, Here}
 use Rattle.parts.specs.Elements.{nthOf, nthBackOf, startOr, endOr, Upto}
 use Rattle.parts.specs.Laws.{upto-nth}
 use Rattle.components.specs.declared.Start.{Start}
-use Rattle.components.specs.List.{dotAt, isDisk, startOf, wholeOf, listOf}
+use Rattle.components.specs.List.{dotAt, startOf, wholeOf, listOf}
 use Rattle.components.specs.Leaves.{OpenAt, CountAt}
 use Rattle.components.specs.Laws.{whole-list, list-upto}
 use Rattle.cursors.specs.declared.Left.{Left}
@@ -28,7 +27,7 @@ use Rattle.cursors.specs.declared.Left.the-variants.{Beyond, Spent, Some
 use Rattle.cursors.specs.declared.Span.{Span}
 use Rattle.cursors.specs.declared.Remains.{Remains}
 use Rattle.cursors.specs.declared.Remains.the-variants.{Beyond as TooMany, Is as Rests}
-use Rattle.cursors.specs.Rest.{leftOf, span, prefixKind, isPrefix, leftEnd, rightEnd, emptyAt, onDisk, isBare, dotted, behindDot, restOf, restAsked}
+use Rattle.cursors.specs.Rest.{leftOf, span, prefixKind, isPrefix, leftEnd, rightEnd, emptyAt, isBare, dotted, behindDot, restOf, restAsked}
 use Rattle.cursors.specs.Leaves.{In}
 
 -- `left_of`, `left_in`
@@ -136,10 +135,7 @@ module _ (l : List Element) where
     unfolding leftEnd
     left-first j r y d h = h ∙ rw (d, ← e, ← g, y)
 
--- `on_disk`, `is_dotted`, `behind_dot`
-pub disk-is : (p : Parsed) (q : Prefix) (r : Bool) → p ≡ Is q → r ≡ isDisk q → r ≡ onDisk p
-disk-is p q r e f = f ∙ rw e
-
+-- `is_dotted`, `behind_dot`
 module _ (h : Start) (s : List ℕ) (b : Bool) (e : b ≡ onDisk (h .prefix)) where
   pub dotted-not : b ≡ false → false ≡ dotted h s
   unfolding dotted
@@ -220,7 +216,7 @@ module _ (k : Seps) (s : List ℕ) (h : Start) (o : OpenAt k s h) where
       unfolding restAsked
       rest-is r l e = rw (← whole-list k s h o, ← c .is) (simp (le-ltb n (f + b) (omega arith)) (rw (e, ← o .is)))
 
-pub ruleset cursors = (rest-dot, rest-some, rest-none, dot-fits, rest-in, rest-front, rest-over, rest-fits, rest-is, left-one, left-back, left-some, left-spent, left-beyond, left-list, start-here, end-here, end-fits, prefix-here, nth-small, back-small, end-nth, right-nth, left-zero, left-prefix, left-first, left-later, empty-zero, empty-past, disk-is, dotted-not, dotted-root, dotted-dot, dot-plain, dot-far, dot-over, dot-one)
+pub ruleset cursors = (rest-dot, rest-some, rest-none, dot-fits, rest-in, rest-front, rest-over, rest-fits, rest-is, left-one, left-back, left-some, left-spent, left-beyond, left-list, start-here, end-here, end-fits, prefix-here, nth-small, back-small, end-nth, right-nth, left-zero, left-prefix, left-first, left-later, empty-zero, empty-past, dotted-not, dotted-root, dotted-dot, dot-plain, dot-far, dot-over, dot-one)
 
 -- what the rest's answer tells
 module _ (k : Seps) (s : List ℕ) (f b : ℕ) where

@@ -5,8 +5,7 @@ use mathlib.Core.Bool.{Bool, true, false, cond}
 use lib.ListN.{length}
 use lib.Dec.{eqb, ltb}
 use Rattle.octets.specs.declared.Seps.{Seps}
-use Rattle.prefixes.specs.declared.Parsed.{Parsed}
-use Rattle.prefixes.specs.declared.Parsed.the-variants.{Nothing, Is}
+use Rattle.prefixes.specs.Prefix.{onDisk}
 use Rattle.parts.specs.declared.Component.{Component}
 use Rattle.parts.specs.declared.Component.the-variants.{Prefix, RootDir, CurDir, ParentDir, Normal}
 use Rattle.parts.specs.declared.Element.{Element}
@@ -23,7 +22,7 @@ use Rattle.cursors.specs.declared.Left.{Left}
 use Rattle.cursors.specs.declared.Left.the-variants.{Beyond, Spent, Some}
 use Rattle.cursors.specs.declared.Remains.{Remains}
 use Rattle.cursors.specs.declared.Remains.the-variants.{Beyond as TooMany, Is as Rests}
-use Rattle.components.specs.List.{dotAt, isDisk, startOf, listOf}
+use Rattle.components.specs.List.{dotAt, startOf, listOf}
 
 -- "more components taken than the path has"; "f + b equal to the list's length"; else some of the n are left
 unfoldable pub leftOf : ℕ → ℕ → ℕ → Left
@@ -60,10 +59,6 @@ unfoldable pub emptyAt : List Element → ℕ → ℕ
 emptyAt l f = cond (eqb f 0) 0 (endOr (nthOf l (f - 1)))
 
 -- "after a Disk prefix with no root, a first segment `.` belongs to no component"
-abbrev pub onDisk : Parsed → Bool
-onDisk Nothing = false
-onDisk (Is p) = isDisk p
-
 abbrev pub isBare : Dir → Bool
 isBare Bare = true
 isBare Root = false

@@ -12,7 +12,7 @@ ghost use Prim.Native.Nat.{ℕ, _+_, _-_, _^_, _<_, _≤_};
 ghost use lib.ListN.{length};
 ghost use Rattle.parts.specs.Elements.{nthOf, nthBackOf, startOr, endOr};
 ghost use Rattle.components.specs.List.{wholeOf, listOf, startOf};
-ghost use Rattle.cursors.specs.Rest.{leftOf, prefixKind, isPrefix, leftEnd, rightEnd, emptyAt, onDisk, isBare, dotted, behindDot, restOf, restAsked};
+ghost use Rattle.cursors.specs.Rest.{leftOf, prefixKind, isPrefix, leftEnd, rightEnd, emptyAt, isBare, dotted, behindDot, restOf, restAsked};
 ghost use Rattle.components.specs.Leaves.{OpenAt};
 ghost use Rattle.cursors.specs.Leaves.{In, SeenAt};
 
@@ -152,15 +152,6 @@ fn empty_at(h: Start, s: &[u8], f: usize) -> usize
     end_at(h, s, f - 1)
 }
 
-pub fn on_disk(p: Parsed) -> bool
-    ensures { λ r. ⌜ r ≡ onDisk p ⌝ }
-{
-    match p {
-        Parsed::Nothing => false,
-        Parsed::Is(q) => components::is_disk(q),
-    }
-}
-
 fn is_bare(d: Dir) -> bool
     ensures { λ r. ⌜ r ≡ isBare d ⌝ }
 {
@@ -180,7 +171,7 @@ pub fn is_dotted(h: Start, s: &[u8]) -> bool
     let d = h.dir;
     let k = h.seps;
     let e = h.end;
-    if on_disk(p) {
+    if prefixes::on_disk(p) {
         if is_bare(d) {
             return components::dot_at(k, s, e);
         }

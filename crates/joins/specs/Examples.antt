@@ -8,7 +8,7 @@ use Rattle.prefixes.specs.Prefix.{turned, begins, slashed, capital, drive, driv
 use Rattle.parts.specs.Body.{sortBy, rest, from}
 use Rattle.components.specs.List.{sepAt, dotAt, dirOf, startOf, headList, bodyList, wholeOf, listOf, hasRoot, isAbsolute}
 use Rattle.seams.specs.Seam.{wants}
-use Rattle.verbatim.specs.Verbatim.{valuesOf, popped, laid, written, verbatimJoin}
+use Rattle.verbatim.specs.Verbatim.{spellingsOf, popped, laid, written, verbatimJoin}
 use Rattle.joins.specs.Join.{mended, mereDisk, parted, joined}
 
 -- E11 W `C:` join `x`: `C:x`; `C:a` join `\b`: `C:\b`; E12 W `\\?\C:\a` join `long\..\b`: `\\?\C:\a\b`;
@@ -20,5 +20,5 @@ pub examples :
     × (joined Unix (97 ∷ []) [] ≡ 97 ∷ 47 ∷ [])
     × (joined Windows (92 ∷ 92 ∷ 63 ∷ 92 ∷ 67 ∷ 58 ∷ []) [] ≡ 92 ∷ 92 ∷ 63 ∷ 92 ∷ 67 ∷ 58 ∷ 92 ∷ [])
     × (joined Windows (67 ∷ 58 ∷ 92 ∷ 97 ∷ []) (100 ∷ 58 ∷ 98 ∷ []) ≡ 100 ∷ 58 ∷ 98 ∷ [])
-unfolding classOf isLetter lead turned begins slashed capital drive driveExact past nameOf namesOf isVerbatim verbatimOf uncOf deviceOf prefixOf sortBy rest from sepAt dotAt dirOf startOf headList bodyList wholeOf listOf hasRoot isAbsolute wants valuesOf popped laid written verbatimJoin mended mereDisk parted joined
+unfolding classOf isLetter lead turned begins slashed capital drive driveExact past nameOf namesOf isVerbatim verbatimOf uncOf deviceOf prefixOf sortBy rest from sepAt dotAt dirOf startOf headList bodyList wholeOf listOf hasRoot isAbsolute wants spellingsOf popped laid written verbatimJoin mended mereDisk parted joined
 examples = (refl, refl, refl, refl, refl, refl)

@@ -1,22 +1,15 @@
 -- Join of two paths. Document 01, "Output". k is the set of separators of the mode, Unix or Windows.
 use Prim.Native.Nat.{ℕ}
-use mathlib.Core.Bool.{Bool, true, false, cond}
+use mathlib.Core.Bool.{Bool, false, cond}
 use mathlib.Core.List.{List, [], _∷_, _++_}
 use lib.ListN.{length, take}
 use lib.Dec.{eqb}
 use Rattle.octets.specs.declared.Seps.{Seps}
 use Rattle.octets.specs.declared.Seps.the-variants.{Unix, Windows, Verbatim as OnlyBack}
-use Rattle.prefixes.specs.declared.Parsed.{Parsed}
-use Rattle.prefixes.specs.declared.Parsed.the-variants.{Nothing, Is}
-use Rattle.prefixes.specs.Prefix.{prefixIn, endOfPrefix}
+use Rattle.prefixes.specs.Prefix.{prefixIn, endOfPrefix, hasPrefix, onDisk}
 use Rattle.components.specs.List.{hasRoot, isAbsolute}
-use Rattle.cursors.specs.Rest.{onDisk}
 use Rattle.seams.specs.Seam.{sepOf, wants}
 use Rattle.verbatim.specs.Verbatim.{verbatimIn, verbatimJoin}
-
-abbrev pub hasPrefix : Parsed → Bool
-hasPrefix Nothing = false
-hasPrefix (Is p) = true
 
 -- 1. "Unix: q absolute; Windows: q has a prefix"
 abbrev pub replaced : Seps → List ℕ → Bool
@@ -28,7 +21,7 @@ replaced OnlyBack q = isAbsolute OnlyBack q
 unfoldable pub mended : Seps → List ℕ → List ℕ → Bool
 mended k p q = cond (eqb (length q) 0) false (verbatimIn (prefixIn k p))
 
--- p "is .. merely a Disk prefix"
+-- p is "merely a Disk prefix"
 unfoldable pub mereDisk : Seps → List ℕ → Bool
 mereDisk k p = cond (onDisk (prefixIn k p)) (eqb (endOfPrefix (prefixIn k p)) (length p)) false
 

@@ -18,25 +18,21 @@ use Rattle.answers.specs.Outcome.{result}
 use Rattle.answers.specs.Written.{Wrote}
 use Rattle.prefixes.specs.declared.Parsed.{Parsed}
 use Rattle.prefixes.specs.declared.Parsed.the-variants.{Nothing, Is}
-use Rattle.prefixes.specs.Prefix.{prefixIn}
+use Rattle.prefixes.specs.Prefix.{prefixIn, hasPrefix, onDisk}
 use Rattle.components.specs.declared.Start.{Start}
-use Rattle.components.specs.List.{sepAt, dotAt, dirOf, startOf, isRoot, hasRoot, isAbsolute}
+use Rattle.components.specs.List.{sepAt, startOf, isRoot, hasRoot, isAbsolute}
+use Rattle.components.specs.Laws.{unix-root}
 use Rattle.components.specs.Leaves.{OpenAt}
-use Rattle.cursors.specs.Rest.{onDisk}
 use Rattle.seams.specs.Seam.{sepOf, wants, glued, seamed}
 use Rattle.verbatim.specs.Verbatim.{verbatimIn, verbatimJoin}
-use Rattle.joins.specs.Join.{hasPrefix, replaced, mended, mereDisk, parted, joined}
+use Rattle.joins.specs.Join.{replaced, mended, mereDisk, parted, joined}
 use Rattle.joins.specs.Leaves.{replacedBy, mendedBy, mereBy, partedBy, behind, keptUnix}
 
 -- ---- in Unix mode no path has a prefix, and join is one path set behind another
-unix-root : (q : List ℕ) → hasRoot Unix q ≡ sepAt Unix q 0
-unfolding hasRoot startOf dirOf
-unix-root q = split (sepAt Unix q 0) (λ e. rw e) (λ e. rw e (split (dotAt Unix q 0) (λ d. rw d) (λ d. rw d)))
-
 pub joined-unix : (p q : List ℕ) → joined Unix p q ≡ seamed Unix p q
 unfolding joined isAbsolute mended mereDisk parted seamed glued
 joined-unix p q =
-    rw unix-root
+    rw (← unix-root Unix q (sepAt Unix q 0) refl refl)
     (split (sepAt Unix q 0)
     (λ e. rw e)
     (λ e. rw e (split (eqb (length q) 0)

@@ -8,10 +8,9 @@ use Rattle.octets.specs.declared.Seps.{Seps}
 use Rattle.octets.specs.declared.Seps.the-variants.{Unix, Windows, Verbatim as OnlyBack}
 use Rattle.components.specs.declared.Start.{Start}
 use Rattle.components.specs.List.{sepAt, isRoot}
-use Rattle.cursors.specs.Rest.{onDisk}
+use Rattle.prefixes.specs.Prefix.{hasPrefix, onDisk}
 use Rattle.seams.specs.Seam.{sepOf, wants}
 use Rattle.verbatim.specs.Verbatim.{verbatimIn}
-use Rattle.joins.specs.Join.{hasPrefix}
 
 -- case 1, of a path that starts with h
 abbrev pub replacedBy : Seps → Start → Bool

@@ -2,7 +2,6 @@
 use answers::View;
 use components::Start;
 use octets::Seps;
-use prefixes::Parsed;
 ghost use mathlib.Core.Path.{_≡_};
 ghost use mathlib.Core.List.{_++_};
 ghost use Prim.Native.Nat.{_≤_};
@@ -11,17 +10,8 @@ ghost use Rattle.octets.specs.Class.{limit};
 ghost use Rattle.octets.specs.declared.Seps.the-variants.{Unix};
 ghost use Rattle.answers.specs.Outcome.{result};
 ghost use Rattle.answers.specs.Written.{Wrote};
-ghost use Rattle.joins.specs.Join.{hasPrefix, joined};
+ghost use Rattle.joins.specs.Join.{joined};
 ghost use Rattle.joins.specs.Leaves.{replacedBy, mendedBy, mereBy, partedBy, behind, keptUnix};
-
-fn has_prefix(p: Parsed) -> bool
-    ensures { λ r. ⌜ r ≡ hasPrefix p ⌝ }
-{
-    match p {
-        Parsed::Nothing => false,
-        Parsed::Is(_) => true,
-    }
-}
 
 // Case 1: whether a path that starts with h takes the place of the other.
 fn replaces(k: Seps, h: Start) -> bool
@@ -31,7 +21,7 @@ fn replaces(k: Seps, h: Start) -> bool
     let p = h.prefix;
     match k {
         Seps::Unix => components::is_root(d),
-        Seps::Windows => has_prefix(p),
+        Seps::Windows => prefixes::has_prefix(p),
         Seps::Verbatim => components::is_root(d),
     }
 }
@@ -61,7 +51,7 @@ fn is_mere_drive(g: Start, p: &[u8]) -> bool
 {
     let x = g.prefix;
     let e = g.end;
-    if cursors::on_disk(x) {
+    if prefixes::on_disk(x) {
         return e == p.len();
     }
     false

@@ -7,7 +7,6 @@ use lib.ListN.{length, getD}
 use borrow.Author.Tests.{ltb-false, eqb-false, not-true, not-false}
 use Rattle.octets.specs.Class.{classOf, isLetter, sepsOf}
 use Rattle.octets.specs.Segment.{lead}
-use Rattle.answers.specs.declared.Reply.{Reply}
 use Rattle.answers.specs.declared.Reply.the-variants.{Done, Mode, Length, Absent, Cursor as TooMany}
 use Rattle.answers.specs.declared.Verdict.{Verdict}
 use Rattle.answers.specs.declared.View.{View}
@@ -45,10 +44,7 @@ use Rattle.paths.specs.Absolute.{absoluteCall}
 use Rattle.laws.specs.Replies.{None}
 use Rattle.laws.specs.Walks.{stands}
 use Rattle.laws.specs.Rooms.{apart, told-passes, result-left}
-use Rattle.laws.specs.Given.{Call, prefix, next, next-back, as-path, parent, ancestor, file-name, file-stem, extension, has-root, is-absolute, compare, starts-with, ends-with, strip-prefix, join, set-file-name, set-extension, absolute, replyTo, testsOf, otherwise-done}
-
-abbrev stepReply : Stepped → Reply
-stepReply a = a .reply
+use Rattle.laws.specs.Given.{Call, prefix, next, next-back, as-path, parent, ancestor, file-name, file-stem, extension, has-root, is-absolute, compare, starts-with, ends-with, strip-prefix, join, set-file-name, set-extension, absolute, replyTo, testsOf, stepReply, otherwise-done}
 
 abbrev elements : Cursor → List ℕ → List Element
 elements c s = listOf (sepsOf (c .mode)) s

@@ -27,7 +27,7 @@ use Rattle.components.specs.List.{sepAt, dotAt, dirOf, startOf, headList, bodyL
 use Rattle.cursors.specs.Rest.{leftEnd, emptyAt, dotted, behindDot, restOf}
 use Rattle.views.specs.Views.{lastName, hasDot, lastDot, ofName, stemSeen, extensionSeen, fileStemOf, extensionOf}
 use Rattle.seams.specs.Seam.{wants, glued, seamed}
-use Rattle.verbatim.specs.Verbatim.{valuesOf, popped, laid, written, verbatimJoin}
+use Rattle.verbatim.specs.Verbatim.{spellingsOf, popped, laid, written, verbatimJoin}
 use Rattle.joins.specs.Join.{mended, mereDisk, parted, joined}
 use Rattle.absolute.specs.Absolute.{twoSlashes, startFor, oneByOne, ends, closed, finished, absoluteOf}
 use Rattle.paths.specs.Steps.{restFor}
@@ -51,7 +51,7 @@ abbrev left12 : List ℕ
 left12 = 92 ∷ 92 ∷ 63 ∷ 92 ∷ 67 ∷ 58 ∷ 92 ∷ 97 ∷ 92 ∷ 98 ∷ []
 
 result12 : joined12 ≡ result left12
-unfolding pairCall guard sepsOf classOf isLetter lead turned begins slashed capital drive driveExact past nameOf namesOf isVerbatim verbatimOf uncOf deviceOf prefixOf sortBy rest from sepAt dotAt dirOf startOf headList bodyList wholeOf listOf hasRoot isAbsolute wants valuesOf popped laid written verbatimJoin mended mereDisk parted joined
+unfolding pairCall guard sepsOf classOf isLetter lead turned begins slashed capital drive driveExact past nameOf namesOf isVerbatim verbatimOf uncOf deviceOf prefixOf sortBy rest from sepAt dotAt dirOf startOf headList bodyList wholeOf listOf hasRoot isAbsolute wants spellingsOf popped laid written verbatimJoin mended mereDisk parted joined
 result12 = refl
 
 -- in a buffer of 10 bytes, and in one of 9; no other answer or buffer meets the promise (`one-buffer` of Unique.antt)

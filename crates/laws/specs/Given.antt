@@ -20,22 +20,22 @@ use Rattle.answers.specs.declared.Verdict.{Verdict}
 use Rattle.answers.specs.Reply.{refusedView, refusedVerdict, seen}
 use Rattle.answers.specs.Outcome.{Outcome, refuse, result, told, guard, inMode, short}
 use Rattle.answers.specs.Written.{answered}
-use Rattle.prefixes.specs.Prefix.{prefixIn}
+use Rattle.prefixes.specs.Prefix.{prefixIn, hasPrefix}
 use Rattle.parts.specs.declared.Element.{Element}
 use Rattle.parts.specs.declared.Item.{Item}
 use Rattle.parts.specs.declared.Item.the-variants.{Missing, Here}
-use Rattle.parts.specs.Elements.{nthBackOf}
+use Rattle.parts.specs.Elements.{nthBackOf, isHere}
 use Rattle.components.specs.List.{sepAt, listOf, isAbsolute}
 use Rattle.views.specs.Views.{leaves, climbs, restBack, parentOf, ancestorOf, lastName, dotOf, onItem, ofName, wholeSeen, stemSeen, extensionSeen}
 use Rattle.matches.specs.Match.{startsOf}
 use Rattle.matches.specs.Strip.{stripOf}
 use Rattle.joins.specs.Join.{joined}
-use Rattle.setters.specs.Set.{isNamed, baseOf, holds, onView, extended}
+use Rattle.setters.specs.Set.{baseOf, holds, onView, extended}
 use Rattle.absolute.specs.Absolute.{startFor, finished, absoluteOf}
 use Rattle.paths.specs.declared.Prefixed.{Prefixed}
 use Rattle.paths.specs.declared.steps.Cursor.{Cursor}
 use Rattle.paths.specs.declared.steps.Stepped.{Stepped}
-use Rattle.paths.specs.Prefix.{refusedPrefix, hasPrefix, prefixAsked, prefixCall}
+use Rattle.paths.specs.Prefix.{refusedPrefix, prefixAsked, prefixCall}
 use Rattle.paths.specs.Steps.{refusedStep, tookAt, stepAsked, nextIn, nextBackIn, nextCall, nextBackCall, restFor, restCall}
 use Rattle.paths.specs.Tests.{testCall, rootCall, absoluteTest}
 use Rattle.paths.specs.Views.{viewCall, parentCall, ancestorCall, fileNameCall, fileStemCall, extensionCall}
@@ -128,8 +128,8 @@ testsOf (next-back c s) = mode (c .mode) ∷ long s ∷ beyond c s ∷ spent c s
 testsOf (as-path c s) = mode (c .mode) ∷ long s ∷ beyond c s ∷ []
 testsOf (parent m s) = mode m ∷ long s ∷ absent (leaves (nthBackOf (listOf (sepsOf m) s) 0)) ∷ []
 testsOf (ancestor m s n) = mode m ∷ long s ∷ absent (climbs (listOf (sepsOf m) s) n) ∷ []
-testsOf (file-name m s) = mode m ∷ long s ∷ absent (isNamed (lastName (sepsOf m) s)) ∷ []
-testsOf (file-stem m s) = mode m ∷ long s ∷ absent (isNamed (lastName (sepsOf m) s)) ∷ []
+testsOf (file-name m s) = mode m ∷ long s ∷ absent (isHere (lastName (sepsOf m) s)) ∷ []
+testsOf (file-stem m s) = mode m ∷ long s ∷ absent (isHere (lastName (sepsOf m) s)) ∷ []
 testsOf (extension m s) = mode m ∷ long s ∷ absent (pointedAt s (lastName (sepsOf m) s)) ∷ []
 testsOf (has-root m s) = mode m ∷ long s ∷ []
 testsOf (is-absolute m s) = mode m ∷ long s ∷ []
@@ -139,7 +139,7 @@ testsOf (ends-with m p q) = mode m ∷ long p ∷ long q ∷ []
 testsOf (strip-prefix m p q) = mode m ∷ long p ∷ long q ∷ absent (startsOf (sepsOf m) p q) ∷ []
 testsOf (join m p q n) = mode m ∷ long p ∷ long q ∷ room n (joined (sepsOf m) p q) ∷ []
 testsOf (set-file-name m p q n) = mode m ∷ long p ∷ long q ∷ room n (joined (sepsOf m) (baseOf (sepsOf m) p) q) ∷ []
-testsOf (set-extension m p e n) = mode m ∷ long p ∷ long e ∷ test (holds (isSep (sepsOf m)) e) Name ∷ absent (isNamed (lastName (sepsOf m) p)) ∷ room n (made (extended (sepsOf m) p e)) ∷ []
+testsOf (set-extension m p e n) = mode m ∷ long p ∷ long e ∷ test (holds (isSep (sepsOf m)) e) Name ∷ absent (isHere (lastName (sepsOf m) p)) ∷ room n (made (extended (sepsOf m) p e)) ∷ []
 testsOf (absolute m s cwd n) = test (ltb 0 m) Mode ∷ long s ∷ long cwd ∷ test (eqb (length s) 0) Empty ∷ baseless s cwd ∷ room n (finished s (startFor s cwd)) ∷ []
 
 -- "Where several hold, the order is 1, 2, 8, 4, 5, 6, 3, 7."
@@ -211,7 +211,7 @@ viewReply a = a .reply
 abbrev verdictReply : Verdict → Reply
 verdictReply a = a .reply
 
-abbrev stepReply : Stepped → Reply
+abbrev pub stepReply : Stepped → Reply
 stepReply a = a .reply
 
 abbrev prefixReply : Prefixed → Reply
@@ -239,7 +239,7 @@ climb-reply n k s =
     (λ t. rw t (split (climbs (listOf k s) n) (λ c. rw c) (λ c. rw c)))
 
 -- of the file name's element, if there is one
-named-reply : (i : Item) (h : Element → Outcome View) → ((x : Element) → told refusedView (h x) .reply ≡ Done) → told refusedView (onItem i h) .reply ≡ firstOf (absent (isNamed i) ∷ [])
+named-reply : (i : Item) (h : Element → Outcome View) → ((x : Element) → told refusedView (h x) .reply ≡ Done) → told refusedView (onItem i h) .reply ≡ firstOf (absent (isHere i) ∷ [])
 unfolding told firstOf
 named-reply Missing h d = refl
 named-reply (Here x) h d = d x
@@ -257,12 +257,12 @@ unfolding told firstOf extensionSeen
 pointed-reply Missing s = refl
 pointed-reply (Here x) s = told-present viewReply refusedView (λ r. refl) _ _ _ refl refl
 
-stem-reply : (n : ℕ) (i : Item) (s : List ℕ) (g : View → List ℕ) → answered n (onView (onItem i (stemSeen s)) g) .reply ≡ firstOf (absent (isNamed i) ∷ room n (made (onView (onItem i (stemSeen s)) g)) ∷ [])
+stem-reply : (n : ℕ) (i : Item) (s : List ℕ) (g : View → List ℕ) → answered n (onView (onItem i (stemSeen s)) g) .reply ≡ firstOf (absent (isHere i) ∷ room n (made (onView (onItem i (stemSeen s)) g)) ∷ [])
 unfolding answered firstOf stemSeen
 stem-reply n Missing s g = refl
 stem-reply n (Here x) s g = wrote-room n (g (seen (x .start) (cond (eqb (dotOf s x) 0) (x .len) (dotOf s x))))
 
-extended-reply : (n : ℕ) (k : Seps) (p e : List ℕ) → answered n (extended k p e) .reply ≡ firstOf (test (holds (isSep k) e) Name ∷ absent (isNamed (lastName k p)) ∷ room n (made (extended k p e)) ∷ [])
+extended-reply : (n : ℕ) (k : Seps) (p e : List ℕ) → answered n (extended k p e) .reply ≡ firstOf (test (holds (isSep k) e) Name ∷ absent (isHere (lastName k p)) ∷ room n (made (extended k p e)) ∷ [])
 unfolding extended ofName answered guard firstOf
 extended-reply n k p e = split (holds (isSep k) e) (λ t. rw t) (λ t. rw t (stem-reply n (lastName k p) p _))
 

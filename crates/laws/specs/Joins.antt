@@ -20,12 +20,12 @@ use Rattle.answers.specs.Outcome.{refuse, result, guard}
 use Rattle.parts.specs.declared.Component.{Component}
 use Rattle.parts.specs.declared.Component.the-variants.{Prefix, RootDir, CurDir, ParentDir, Normal}
 use Rattle.parts.specs.declared.Element.{Element}
-use Rattle.parts.specs.Elements.{nthOf, nthBackOf, startOr, endOr}
+use Rattle.parts.specs.Elements.{nthOf, nthBackOf, startOr, endOr, bytesAt}
 use Rattle.parts.specs.Laws.{Bodily, Goods, from-good}
 use Rattle.components.specs.List.{sepAt, dotAt, dirOf, startOf, listOf}
 use Rattle.cursors.specs.declared.Span.{Span}
 use Rattle.cursors.specs.Rest.{span, viewOf, leftEnd, emptyAt, dotted, behindDot, restOf}
-use Rattle.order.specs.Values.{Value, bytesAt, valueOf, valueBy, valuesIn, valuesOf}
+use Rattle.order.specs.Values.{Value, valueOf, valueBy, valuesIn, valuesOf}
 use Rattle.order.specs.Order.{cmpValue}
 use Rattle.order.specs.Ordered.{each, value-exact}
 use Rattle.matches.specs.Match.{startsWith, startsOf}
@@ -34,9 +34,10 @@ use Rattle.joins.specs.Join.{joined}
 use Rattle.joins.specs.Laws.{joined-unix}
 use Rattle.seams.specs.Seam.{wants, glued, seamed}
 use Rattle.seams.specs.Laws.{either, wants-last, starts-nil, glued-open, glued-shut, seamed-relative, seamed-empty, seamed-assoc}
+use Rattle.order.specs.Leaves.{dirValues}
 use Rattle.laws.specs.Values.{segments-none, bodyOf, partsOf, from-values, segments-trail, values-plain, values-seam, values-behind, values-drop, values-some, values-front, list-none, unix-from, unix-clear, unix-trail, unix-plain}
 
--- "less a leading dot": without a first value that is a CurDir
+-- less a leading dot: without a first value that is a CurDir
 unfoldable pub undotted : List Value → List Value
 undotted [] = []
 undotted (v ∷ l) = cond (eqb (v .kind) 3) l (v ∷ l)
@@ -59,7 +60,7 @@ segments-undotted : (q : List ℕ) → undotted (partsOf q) ≡ partsOf q
 segments-undotted q = rw (from-values (isSep Unix) false q 0) at (elements-undotted (isSep Unix) q (bodyOf q 0) (from-good (isSep Unix) false q 0))
 
 relative-undotted : (q : List ℕ) → sepAt Unix q 0 ≡ false → undotted (valuesOf Unix q) ≡ partsOf q
-unfolding dirOf undotted
+unfolding dirOf dirValues undotted
 relative-undotted q r = rw (values-plain q, r) (split (dotAt Unix q 0) (λ e. rw e) (λ e. rw e (segments-undotted q)))
 
 -- p, a separator where it wants one, and q
@@ -81,7 +82,7 @@ glued-values p q h = ⊎-elim wanting ending (either (wants Unix p))
 joined-segments : (p q : List ℕ) → (length p ≡ 0 → ⊥) → sepAt Unix q 0 ≡ false → valuesOf Unix (seamed Unix p q) ≡ valuesOf Unix p ++ partsOf q
 joined-segments p q h r = rw (seamed-relative Unix p q r) (glued-values p q h)
 
--- "a relative q joined to a nonempty p has p's components, then q's less a leading dot, by the lists of values"
+-- a relative q joined to a nonempty p has p's components, then q's less a leading dot, by the lists of values
 pub joined-values : (p q : List ℕ) → (length p ≡ 0 → ⊥) → sepAt Unix q 0 ≡ false
     → valuesOf Unix (seamed Unix p q) ≡ valuesOf Unix p ++ undotted (valuesOf Unix q)
 joined-values p q h r = rw (relative-undotted q r) (joined-segments p q h r)
@@ -179,7 +180,7 @@ back-none (x ∷ s) =
     let h : 0 < length (listOf Unix (x ∷ s)) = list-some (x ∷ s) (λ z. omega arith) in
     rw (rest-all (x ∷ s) h) (values-front (x ∷ s) h)
 
--- "if a base can be stripped from a path, joining what remains back to it gives the path's own component list": the components of the
+-- if a base can be stripped from a path, joining what remains back to it gives the path's own component list: the components of the
 -- base t are the first of s
 pub stripped-back : (s t : List ℕ) → take (length (listOf Unix t)) (valuesOf Unix s) ≡ valuesOf Unix t
     → valuesOf Unix (seamed Unix t (remains s (length (listOf Unix t)))) ≡ valuesOf Unix s
@@ -221,11 +222,11 @@ strip-joins s t v e =
 
 -- ---- the first two clauses, of what join answers
 
--- "joining to the empty path gives the second"
+-- joining to the empty path gives the second
 pub join-empty : (q : List ℕ) → joined Unix [] q ≡ q
 join-empty q = joined-unix [] q ∙ seamed-empty Unix q
 
--- "p with (q with r) and (p with q) with r are the same bytes"
+-- p with (q with r) and (p with q) with r are the same bytes
 pub join-grouping : (p q r : List ℕ) → joined Unix p (joined Unix q r) ≡ joined Unix (joined Unix p q) r
 join-grouping p q r =
     joined-unix p (joined Unix q r)
@@ -233,6 +234,6 @@ join-grouping p q r =
     ∙ seamed-assoc Unix p q r
     ∙ sym (joined-unix (joined Unix p q) r ∙ ap (λ (x : List ℕ). seamed Unix x r) (joined-unix p q))
 
--- "a relative q joined to a nonempty p has p's components, then q's less a leading dot"
+-- a relative q joined to a nonempty p has p's components, then q's less a leading dot
 pub join-components : (p q : List ℕ) → (length p ≡ 0 → ⊥) → sepAt Unix q 0 ≡ false → valuesOf Unix (joined Unix p q) ≡ valuesOf Unix p ++ undotted (valuesOf Unix q)
 join-components p q h e = rw (joined-unix p q) (joined-values p q h e)

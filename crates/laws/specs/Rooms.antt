@@ -19,7 +19,7 @@ use Rattle.answers.specs.Outcome.{Outcome, refuse, result, told, guard}
 use Rattle.answers.specs.Written.{over, answered, left, Wrote}
 
 -- the bytes w were left: they stand at the front of the buffer, the answer counts them, and every later byte is as before
-pub record Left (w : List ℕ) (a : View) (before after : List ℕ) : Type 0 where
+pub record Standing (w : List ℕ) (a : View) (before after : List ℕ) : Type 0 where
   pub is : take (a .len) after ≡ w
   pub counted : a .len ≡ length w
   pub room : length w ≤ length before
@@ -62,7 +62,7 @@ module _ (w : List ℕ) (a : View) (before after : List ℕ) (h : Wrote (result 
   )
 
   -- "Done with output: the result stands at the front, its length is returned, every later byte is as before."
-  pub result-left : a .reply ≡ Done → Left w a before after
+  pub result-left : a .reply ≡ Done → Standing w a before after
   unfolding over
   result-left e =
       let l = done-exactly .0 e in

@@ -18,22 +18,23 @@ use Rattle.octets.specs.Segment.{lead, endOf}
 use Rattle.octets.specs.declared.Seps.{Seps}
 use Rattle.octets.specs.declared.Seps.the-variants.{Unix}
 use Rattle.prefixes.specs.declared.Parsed.the-variants.{Nothing}
-use Rattle.parts.specs.declared.Component.{Component}
-use Rattle.parts.specs.declared.Component.the-variants.{Prefix, RootDir, CurDir, ParentDir, Normal}
 use Rattle.parts.specs.declared.Element.{Element}
 use Rattle.parts.specs.declared.Item.the-variants.{Here}
 use Rattle.parts.specs.declared.Kind.the-variants.{Dot as LoneDot, DotDot, Name}
 use Rattle.parts.specs.declared.Sort.{Sort}
 use Rattle.parts.specs.declared.Sort.the-variants.{Skip, Is}
 use Rattle.parts.specs.Body.{sortBy, sortOf, sortAt, put, rest, body, from}
-use Rattle.parts.specs.Elements.{nthOf, nthBackOf, startOr, endOr}
-use Rattle.parts.specs.Laws.{seam, step, from-end, nth-behind, back-nth, back-behind, Bodily, Good, Goods, from-good}
+use Rattle.parts.specs.Elements.{nthOf, nthBackOf, startOr, endOr, bytesAt}
+use Rattle.parts.specs.Laws.{seam, step, from-end, nth-behind, back-nth, back-behind, from-good, good-nth}
 use Rattle.components.specs.declared.Dir.{Dir}
 use Rattle.components.specs.declared.Dir.the-variants.{Bare, Root, Implied, Dot}
 use Rattle.components.specs.List.{sepAt, dotAt, dirOf, dirLen, startOf, dirPart, headList, bodyList, wholeOf, listOf}
-use Rattle.cursors.specs.Rest.{prefixKind, isPrefix}
-use Rattle.order.specs.Values.{Value, valued, bytesAt, valuesIn, valuesOf}
-use Rattle.order.specs.Heads.{values-append}
+use Rattle.components.specs.Laws.{dir-few, open-start}
+use Rattle.cursors.specs.Rest.{isPrefix}
+use Rattle.order.specs.Values.{Value, valued, valuesIn, valuesOf}
+use Rattle.order.specs.Leaves.{dirRank, dirValues}
+use Rattle.order.specs.Heads.{values-append, dir-values}
+use Rattle.matches.specs.Laws.{plain-first}
 use Rattle.laws.specs.Walks.{stands}
 
 -- ---- a body's values, by its bytes
@@ -105,19 +106,6 @@ module _ (sep : ℕ → Bool) (v : Bool) where
 
 -- ---- what stands ahead of a body, where a path has no prefix
 
-abbrev pub headed : Dir → List Value
-headed Bare = []
-headed Root = valued 2 [] ∷ []
-headed Implied = valued 2 [] ∷ []
-headed Dot = valued 3 [] ∷ []
-
-head-values : (s : List ℕ) (d : Dir) → valuesIn s (dirPart d 0) ≡ headed d
-unfolding valuesIn
-head-values s Bare = refl
-head-values s Root = refl
-head-values s Implied = refl
-head-values s Dot = refl
-
 abbrev pub dirBy : Bool → Bool → Dir
 dirBy root dot = cond root Root (cond dot Dot Bare)
 
@@ -182,10 +170,10 @@ pub list-none : listOf Unix [] ≡ []
 unfolding from rest lead sortBy
 list-none = list-plain [] ∙ rw (ahead-none Unix)
 
-pub values-plain : (s : List ℕ) → valuesOf Unix s ≡ headed (topOf s) ++ partsOf s
+pub values-plain : (s : List ℕ) → valuesOf Unix s ≡ dirValues (dirRank (topOf s)) ++ partsOf s
 unfolding valuesOf
 values-plain s =
-    rw (list-plain s, values-append s (dirPart (topOf s) 0) (bodyOf s 0), head-values s (topOf s), from-values (isSep Unix) false s 0)
+    rw (list-plain s, values-append s (dirPart (topOf s) 0) (bodyOf s 0), dir-values s (topOf s) 0, from-values (isSep Unix) false s 0)
 
 -- behind a separator stand the values of the segments there
 pub values-seam : (u : List ℕ) (y : ℕ) (w : List ℕ) → (length u ≡ 0 → ⊥) → isSep Unix y ≡ true → valuesOf Unix (u ++ y ∷ w) ≡ valuesOf Unix u ++ partsOf w
@@ -194,6 +182,7 @@ values-seam u y w h e =
     ∙ rw (ahead-seam Unix u y w h e, segments-seam (isSep Unix) false u y w e, values-plain u, append-assoc)
 
 values-root : (y : ℕ) (w : List ℕ) → isSep Unix y ≡ true → valuesOf Unix (y ∷ w) ≡ valued 2 [] ∷ partsOf w
+unfolding dirValues
 values-root y w e = values-plain (y ∷ w) ∙ rw (root w, segments-sep (isSep Unix) false y w e)
   where
     root : (w : List ℕ) → topOf (y ∷ w) ≡ Root
@@ -265,12 +254,6 @@ module _ (sep : ℕ → Bool) where
     cut-nth lo (x ∷ l) zero p u e = let z : x ≡ p = cc in rw z at (u .0)
     cut-nth lo (x ∷ l) (suc f) p u e = cut-nth lo l f p (u .1) e
 
-    good-nth : (l : List Element) (f : ℕ) (p : Element) → Goods sep v s l → nthOf l f ≡ Here p → Good sep v s p
-    unfolding Goods nthOf
-    good-nth [] f p u e = let z : _≡_ {A = ℕ} 0 1 = cc in absurd (omega arith)
-    good-nth (x ∷ l) zero p u e = let z : x ≡ p = cc in rw z at (u .0)
-    good-nth (x ∷ l) (suc f) p u e = good-nth l f p (u .1) e
-
     pub trail : (i : ℕ) → 0 < length (from sep v s i) → Trail sep v s i (endOr (nthBackOf (from sep v s i) 0))
     trail i h =
         let m : List Element = from sep v s i in
@@ -278,7 +261,7 @@ module _ (sep : ℕ → Bool) where
         let z : length m - 1 - 0 ≡ length m - 1 = omega arith in
         let g : nthBackOf m 0 ≡ Here (t .element) = back-nth m 0 h ∙ rw z (t .is) in
         let c = cut-nth i m (length m - 1) (t .element) (cuts i) (t .is) in
-        let w = good-nth m (length m - 1) (t .element) (from-good sep v s i) (t .is) in
+        let w = good-nth sep v s m (length m - 1) (t .element) (from-good sep v s i) (t .is) in
         let d : drop (suc (length m - 1)) m ≡ [] = drop-of-length-le m {i = suc (length m - 1)} (omega arith) in
         rw g (record { low = omega (arith, c .low, w .some); high = w .inside; edge = c .edge; none = sym (c .next) ∙ d })
 
@@ -291,7 +274,7 @@ module _ (sep : ℕ → Bool) where
     pub clear-nth : (i f : ℕ) → f < length (from sep v s i) → sep (getD s (startOr (nthOf (from sep v s i) f)) 0) ≡ false
     clear-nth i f h =
         let t = stands (from sep v s i) f h in
-        let g = good-nth (from sep v s i) f (t .element) (from-good sep v s i) (t .is) in
+        let g = good-nth sep v s (from sep v s i) f (t .element) (from-good sep v s i) (t .is) in
         rw (t .is) (rw add-zero at (g .clear 0 (g .some)))
 
     -- what stands behind the last element has no values
@@ -324,12 +307,6 @@ values-drop s zero l = refl
 values-drop s (suc f) [] = refl
 values-drop s (suc f) (x ∷ l) = values-drop s f l
 
-head-few : (d : Dir) → length (dirPart d 0) ≤ 1
-head-few Bare = omega arith
-head-few Root = omega arith
-head-few Implied = omega arith
-head-few Dot = omega arith
-
 -- element f of a list with the head h, where h is used up
 module _ (sep : ℕ → Bool) (v : Bool) (s : List ℕ) (h : List Element) (f : ℕ) (k : length h ≤ f) (l : f < length (h ++ from sep v s 0)) where
   behind-inside : f - length h < length (from sep v s 0)
@@ -345,10 +322,10 @@ module _ (sep : ℕ → Bool) (v : Bool) (s : List ℕ) (h : List Element) (f : 
 
 module _ (s : List ℕ) (f : ℕ) (k : 0 < f) (l : f < length (listOf Unix s)) where
   pub unix-from : drop f (listOf Unix s) ≡ bodyOf s (startOr (nthOf (listOf Unix s) f))
-  unix-from = rw (list-plain s) (behind-from (isSep Unix) false s (dirPart (topOf s) 0) f (omega (arith, head-few (topOf s))) (rw (list-plain s) at l))
+  unix-from = rw (list-plain s) (behind-from (isSep Unix) false s (dirPart (topOf s) 0) f (omega (arith, dir-few (topOf s) 0)) (rw (list-plain s) at l))
 
   pub unix-clear : isSep Unix (getD s (startOr (nthOf (listOf Unix s) f)) 0) ≡ false
-  unix-clear = rw (list-plain s) (behind-clear (isSep Unix) false s (dirPart (topOf s) 0) f (omega (arith, head-few (topOf s))) (rw (list-plain s) at l))
+  unix-clear = rw (list-plain s) (behind-clear (isSep Unix) false s (dirPart (topOf s) 0) f (omega (arith, dir-few (topOf s) 0)) (rw (list-plain s) at l))
 
   -- the last element of the list is the last from element f on
   pub unix-trail : Trail (isSep Unix) false s (startOr (nthOf (listOf Unix s) f)) (endOr (nthBackOf (listOf Unix s) 0))
@@ -360,27 +337,9 @@ module _ (s : List ℕ) (f : ℕ) (k : 0 < f) (l : f < length (listOf Unix s)) w
       rw g (trail (isSep Unix) false s a n)
 
 -- no element is a prefix
-bodily-plain : (c : Component) → Bodily false c → prefixKind c ≡ false
-bodily-plain (Prefix p) b = absurd b
-bodily-plain RootDir b = refl
-bodily-plain CurDir b = refl
-bodily-plain ParentDir b = refl
-bodily-plain Normal b = refl
-
-goods-plain : (sep : ℕ → Bool) (s : List ℕ) (l : List Element) → Goods sep false s l → isPrefix (nthOf l 0) ≡ false
-unfolding Goods nthOf
-goods-plain sep s [] u = refl
-goods-plain sep s (x ∷ l) u = bodily-plain (x .component) (u .0 .bodily)
-
-head-plain : (d : Dir) (m : List Element) → isPrefix (nthOf m 0) ≡ false → isPrefix (nthOf (dirPart d 0 ++ m) 0) ≡ false
-unfolding nthOf
-head-plain Bare m h = h
-head-plain Root m h = refl
-head-plain Implied m h = refl
-head-plain Dot m h = refl
-
 pub unix-plain : (s : List ℕ) → isPrefix (nthOf (listOf Unix s) 0) ≡ false
-unix-plain s = rw (list-plain s) (head-plain (topOf s) _ (goods-plain (isSep Unix) s _ (from-good (isSep Unix) false s 0)))
+unfolding startOf
+unix-plain s = plain-first Unix s (startOf Unix s) (open-start Unix s) refl
 
 -- ---- a path that is not empty has a component, and up to the end of its last it has all of them
 
@@ -413,9 +372,10 @@ bare-some (x ∷ y ∷ s) h e =
     (λ f. rw (b .0, f) (sort-some (suc (suc (length (lead (isSep Unix) s)))) x y _ _ (λ z. omega arith) (λ _ z. omega arith)))
 
 pub values-some : (s : List ℕ) → (length s ≡ 0 → ⊥) → 0 < length (valuesOf Unix s)
+unfolding dirValues
 values-some s h = rw (values-plain s) (go (topOf s) refl)
   where
-    go : (d : Dir) → topOf s ≡ d → 0 < length (headed d ++ partsOf s)
+    go : (d : Dir) → topOf s ≡ d → 0 < length (dirValues (dirRank d) ++ partsOf s)
     go Bare e = bare-some s h e
     go Root e = omega arith
     go Implied e = omega arith
@@ -426,8 +386,8 @@ ahead-first : (x : ℕ) (s : List ℕ) → (dot : Bool) × (topOf (x ∷ s) ≡ 
 ahead-first x [] = (eqb x 46, ahead-one Unix x, eqb-true x 46)
 ahead-first x (y ∷ s) = (cond (eqb x 46) (isSep Unix y) false, ahead-two Unix x y s, λ h. split (eqb x 46) (λ f. eqb-true x 46 f) (λ f. absurd (false≢true (rw f at h))))
 
-head-alone : (x : ℕ) (s : List ℕ) (root dot : Bool) → (root ≡ true → isSep Unix x ≡ true) → (dot ≡ true → x ≡ 46) → 0 < length (dirPart (dirBy root dot) 0) → valuesOf Unix (take (endOr (nthBackOf (dirPart (dirBy root dot) 0) 0)) (x ∷ s)) ≡ headed (dirBy root dot)
-unfolding nthBackOf nthOf
+head-alone : (x : ℕ) (s : List ℕ) (root dot : Bool) → (root ≡ true → isSep Unix x ≡ true) → (dot ≡ true → x ≡ 46) → 0 < length (dirPart (dirBy root dot) 0) → valuesOf Unix (take (endOr (nthBackOf (dirPart (dirBy root dot) 0) 0)) (x ∷ s)) ≡ dirValues (dirRank (dirBy root dot))
+unfolding nthBackOf nthOf dirValues
 head-alone x s true dot f g h = values-root x [] (f refl) ∙ rw (segments-none (isSep Unix) false)
 head-alone x s false true f g h = rw (g refl) (values-plain (46 ∷ []) ∙ rw (ahead-one Unix 46) (ap (λ (l : List Value). valued 3 [] ∷ l) dot-none))
 head-alone x s false false f g h = absurd (omega arith)
@@ -452,7 +412,7 @@ front-head (x ∷ s) e h =
     let a = ahead-first x s in
     let n : partsOf (x ∷ s) ≡ [] = rw e at (sym (from-values (isSep Unix) false (x ∷ s) 0)) in
     let l : listOf Unix (x ∷ s) ≡ dirPart (dirBy (isSep Unix x) (a .0)) 0 = list-plain (x ∷ s) ∙ rw (e, a .1, append-nil) in
-    let v : valuesOf Unix (x ∷ s) ≡ headed (dirBy (isSep Unix x) (a .0)) = values-plain (x ∷ s) ∙ rw (n, a .1, append-nil) in
+    let v : valuesOf Unix (x ∷ s) ≡ dirValues (dirRank (dirBy (isSep Unix x) (a .0))) = values-plain (x ∷ s) ∙ rw (n, a .1, append-nil) in
     rw (l, v) (head-alone x s (isSep Unix x) (a .0) (λ z. z) (a .2) (rw l at h))
 
 pub values-front : (s : List ℕ) → 0 < length (listOf Unix s) → valuesOf Unix (take (endOr (nthBackOf (listOf Unix s) 0)) s) ≡ valuesOf Unix s

@@ -16,7 +16,7 @@ use Rattle.prefixes.specs.declared.Figures.{Figures}
 use Rattle.prefixes.specs.declared.Prefix.{Prefix}
 use Rattle.prefixes.specs.declared.Parsed.{Parsed}
 use Rattle.prefixes.specs.declared.Parsed.the-variants.{Nothing as Without, Is}
-use Rattle.prefixes.specs.Prefix.{figuresOf, parsedFigures}
+use Rattle.prefixes.specs.Prefix.{figuresOf, parsedFigures, hasPrefix}
 use Rattle.parts.specs.declared.Element.{Element}
 use Rattle.parts.specs.declared.Kind.{Kind}
 use Rattle.parts.specs.declared.Kind.the-variants.{Dot as LoneDot, DotDot, Name}
@@ -31,7 +31,6 @@ use Rattle.components.specs.declared.Dir.the-variants.{Bare, Root, Implied, Dot
 use Rattle.components.specs.declared.Start.{Start}
 use Rattle.components.specs.Leaves.{OpenAt}
 use Rattle.order.specs.declared.Ordering.{Ordering}
-use Rattle.order.specs.declared.Ordering.the-variants.{Less, Equal, Greater}
 use Rattle.order.specs.Values.{Value, valued, prefixValue, valueOf, valuesIn, valuesOf}
 use Rattle.order.specs.Order.{cmpValue}
 use Rattle.order.specs.Ordered.{each, itself, value-ordered}
@@ -40,7 +39,7 @@ use Rattle.order.specs.Heads.{values-append, values-whole, open-kind, dot-alone
 use Rattle.order.specs.Laws.{names-here}
 use Rattle.matches.specs.Match.{isEqual, same, startsWith, endsWith, endsOf}
 use Rattle.matches.specs.Laws.{bad, by-prefix}
-use Rattle.matches.specs.Leaves.{isDot, prefixless, Begun, samePrefix, frontOf, Ahead}
+use Rattle.matches.specs.Leaves.{isDot, Begun, samePrefix, frontOf, Ahead}
 
 -- ---- from the back
 ends-snoc : (l m : List Value) (u v : Value) → endsWith (l ++ (u ∷ [])) (m ++ (v ∷ [])) ≡ cond (same u v) (endsWith l m) false
@@ -109,17 +108,8 @@ head-apart s p d m v n h =
 
 -- `same_prefix`
 module _ (s t : List ℕ) (p q : Parsed) (x : Prefix) (f : p ≡ Is x) (a b : Figures) (g : a ≡ parsedFigures p) (h : b ≡ parsedFigures q) (o : Ordering) (e : o ≡ cmpValue (prefixValue s a) (prefixValue t b)) where
-  same-is : samePrefix s t p q ≡ isEqual o
-  same-is = rw f (sym (ap isEqual e ∙ rw (g, h, f)))
-
-  pub same-less : o ≡ Less → false ≡ samePrefix s t p q
-  same-less z = sym (same-is ∙ rw z)
-
-  pub same-equal : o ≡ Equal → true ≡ samePrefix s t p q
-  same-equal z = sym (same-is ∙ rw z)
-
-  pub same-more : o ≡ Greater → false ≡ samePrefix s t p q
-  same-more z = sym (same-is ∙ rw z)
+  pub prefix-same : (r : Bool) → r ≡ isEqual o → r ≡ samePrefix s t p q
+  prefix-same r z = z ∙ sym (rw f (sym (ap isEqual e ∙ rw (g, h, f))))
 
 -- `ends_heads`
 prefixes-end : (s t : List ℕ) (p : Parsed) (q : Prefix) → endsWith (prefixValues s p) (prefixValue t (figuresOf q) ∷ []) ≡ samePrefix s t p (Is q)
@@ -175,7 +165,7 @@ module _ (s : List ℕ) (g : Start) (t : List ℕ) (h : Start) (c e : ℕ) (x : 
         (ends-apart (prefixValues s (g .prefix)) [] (valued c []) (prefixValue t (figuresOf q)) (λ u. absurd (omega (arith, u, x, rank-step (g .dir) (λ v. j (x ∙ v)) .0))))))
         (λ w. sym (dirs-apart n (eqb-false e 0 w)))
 
-pub ruleset endings = (same-less, same-equal, same-more, ends-empty, ends-dir, ends-prefix, ends-not)
+pub ruleset endings = (prefix-same, ends-empty, ends-dir, ends-prefix, ends-not)
 
 -- ---- what stands before a place
 values-one : (s : List ℕ) (e : Element) → valuesIn s (e ∷ []) ≡ valueOf s e ∷ []
@@ -233,11 +223,11 @@ module _ (s : List ℕ) (g : Start) (x : ℕ) (t : List ℕ) (h : Start) (b : Be
         go true = refl
         go false = refl
 
-    pub end-bare : (r : Bool) → e ≡ 0 → r ≡ prefixless (h .prefix) → r ≡ front-end
+    pub end-bare : (r : Bool) → e ≡ 0 → r ≡ hasPrefix (h .prefix) → not r ≡ front-end
     end-bare r z w =
         by-prefix (h .prefix)
-        (λ u. w ∙ ap prefixless u ∙ sym (rw (head-values t h, u, dirs-none (dirRank (h .dir)) (sym y ∙ z)) (ends-nil (frontOf s g x))))
-        (λ q u. w ∙ ap prefixless u ∙ sym (part-apart [] (prefixValue t (figuresOf q)) (head-values t h ∙ rw (u, dirs-none (dirRank (h .dir)) (sym y ∙ z))) (omega arith) (λ i. absurd (omega (arith, i)))))
+        (λ u. ap not (w ∙ ap hasPrefix u) ∙ sym (rw (head-values t h, u, dirs-none (dirRank (h .dir)) (sym y ∙ z)) (ends-nil (frontOf s g x))))
+        (λ q u. ap not (w ∙ ap hasPrefix u) ∙ sym (part-apart [] (prefixValue t (figuresOf q)) (head-values t h ∙ rw (u, dirs-none (dirRank (h .dir)) (sym y ∙ z))) (omega arith) (λ i. absurd (omega (arith, i)))))
 
     pub end-root : (e ≡ 3 → ⊥) → (e ≡ 0 → ⊥) → false ≡ front-end
     end-root i j =
@@ -293,18 +283,15 @@ module _ (s : List ℕ) (g : Start) (t : List ℕ) (h : Start) (x y : ℕ) (r : 
   back-head c n z = z ∙ sym (e ∙ rw (front-none t h y q f n))
 
   module _ (b : Part) (n : q ≡ Found b) (p : Piece) (k : LastAt (isSep (g .seps)) (dots (g .seps)) s (g .at) x p) where
-    module _ (a : Part) (m : p ≡ Found a) (o : Ordering) (c : o ≡ cmpValue (valueOf s (lift a)) (valueOf t (lift b))) where
-      back-by : r ≡ cond (isEqual o) (endsWith (frontOf s g (a .start)) (frontOf t h (b .start))) false
-      back-by = e ∙ rw (front-found s g x p k a m, front-found t h y q f b n) (ends-snoc (frontOf s g (a .start)) (frontOf t h (b .start)) (valueOf s (lift a)) (valueOf t (lift b)) ∙ rw c)
+    module _ (a : Part) (m : p ≡ Found a) (o : Ordering) (c : o ≡ cmpValue (valueOf s (lift a)) (valueOf t (lift b))) (d : Bool) (w : d ≡ isEqual o) where
+      back-by : r ≡ cond d (endsWith (frontOf s g (a .start)) (frontOf t h (b .start))) false
+      back-by = e ∙ rw (front-found s g x p k a m, front-found t h y q f b n) (ends-snoc (frontOf s g (a .start)) (frontOf t h (b .start)) (valueOf s (lift a)) (valueOf t (lift b)) ∙ rw (w, c))
 
-      pub back-on : o ≡ Equal → r ≡ endsWith (frontOf s g (a .start)) (frontOf t h (b .start))
+      pub back-on : d ≡ true → r ≡ endsWith (frontOf s g (a .start)) (frontOf t h (b .start))
       back-on z = back-by ∙ rw z
 
-      pub back-less : o ≡ Less → false ≡ r
-      back-less z = sym (back-by ∙ rw z)
-
-      pub back-more : o ≡ Greater → false ≡ r
-      back-more z = sym (back-by ∙ rw z)
+      pub back-off : d ≡ false → false ≡ r
+      back-off z = sym (back-by ∙ rw z)
 
     -- the first body is used up
     pub back-short : Begun s g → Begun t h → Ahead t h y → p ≡ Nothing → false ≡ r
@@ -329,4 +316,4 @@ ahead-start t h = record { rest = []; is = sym (append-nil (frontOf t h (length 
 pub part-inside : (sep : ℕ → Bool) (v : Bool) (s : List ℕ) (lo hi : ℕ) (p : Piece) (z : Part) → LastAt sep v s lo hi p → p ≡ Found z → z .start + z .len ≤ length s
 part-inside sep v s lo hi p z f n = let t = last-found f n in omega (arith, t .high, t .inside)
 
-pub ruleset backs = (part-inside, end-heads, end-dot, end-bare, end-root, begun, ends-whole, back-head, back-on, back-less, back-more, back-short, ahead-on, ahead-start)
+pub ruleset backs = (part-inside, end-heads, end-dot, end-bare, end-root, begun, ends-whole, back-head, back-on, back-off, back-short, ahead-on, ahead-start)

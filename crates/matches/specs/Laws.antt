@@ -43,10 +43,8 @@ use Rattle.order.specs.Ordered.{each}
 use Rattle.order.specs.Leaves.{dirRank, dirValues, headValues, bodyValues, isNil, meetThen, meet, meetFirst, meetSecond, SkipAt}
 use Rattle.order.specs.Heads.{values-whole, leadKind, body-kind, prefixValues, head-values, no-head, whole-same, whole-apart, whole-first-end, whole-first-more, whole-second-end, whole-second-more}
 use Rattle.order.specs.Laws.{values-none, values-found, heads-bare, heads-second, heads-first, heads-both, skip-meets}
-use Rattle.matches.specs.declared.Place.{Place}
-use Rattle.matches.specs.declared.Place.the-variants.{Off, At}
 use Rattle.matches.specs.declared.After.{After}
-use Rattle.matches.specs.declared.After.the-variants.{Off as Nowhere, Head, Body}
+use Rattle.matches.specs.declared.After.the-variants.{Off, Head, Body}
 use Rattle.matches.specs.Match.{isEqual, startsWith, startsOf}
 use Rattle.matches.specs.Leaves.{isBase, startsBody, leftBody, Behind, BehindAt, lonely, headStart, AtHead, InBody, AfterAt}
 
@@ -63,7 +61,7 @@ starts-meet (u ∷ l) (v ∷ m) = each (cmpValue u v) (λ x. rw x) (λ x. rw x (
 
 -- `walk`: e and d say what the loop has kept, q and p are the next pieces
 module _ (k h : Seps) (s t : List ℕ) (i j x y : ℕ) (e : startsBody k s i h t j ≡ startsBody k s x h t y) (q : Piece) (g : FirstAt (isSep h) (dots h) t y q) where
-  pub walk-end : leftBody k s i h t j ≡ leftBody k s x h t y → q ≡ Nothing → BehindAt k s i h t j (At x)
+  pub walk-end : leftBody k s i h t j ≡ leftBody k s x h t y → q ≡ Nothing → BehindAt k s i h t j (Body x)
   unfolding startsBody leftBody startsWith
   walk-end d b = record { says = record { starts = e ∙ rw (values-none h t y q g b); left = d ∙ rw (first-none g b) } }
 
@@ -77,19 +75,16 @@ module _ (k h : Seps) (s t : List ℕ) (i j x y : ℕ) (e : startsBody k s i h t
       unfolding leftBody
       walk-left d = d ∙ rw (first-found f a .is, first-found g b .is)
 
-      module _ (o : Ordering) (c : o ≡ cmpValue (valueOf s (lift m)) (valueOf t (lift n))) where
-        walk-by : startsBody k s i h t j ≡ cond (isEqual o) (startsBody k s (m .start + m .len + 1) h t (n .start + n .len + 1)) false
+      module _ (o : Ordering) (c : o ≡ cmpValue (valueOf s (lift m)) (valueOf t (lift n))) (z : Bool) (w : z ≡ isEqual o) where
+        walk-by : startsBody k s i h t j ≡ cond z (startsBody k s (m .start + m .len + 1) h t (n .start + n .len + 1)) false
         unfolding startsBody startsWith
-        walk-by = e ∙ rw (values-found k s x p f m a, values-found h t y q g n b, c)
+        walk-by = e ∙ rw (values-found k s x p f m a, values-found h t y q g n b, w, c)
 
-        pub walk-on : o ≡ Equal → startsBody k s i h t j ≡ startsBody k s (m .start + m .len + 1) h t (n .start + n .len + 1)
-        walk-on z = walk-by ∙ rw z
+        pub walk-on : z ≡ true → startsBody k s i h t j ≡ startsBody k s (m .start + m .len + 1) h t (n .start + n .len + 1)
+        walk-on d = walk-by ∙ rw d
 
-        pub walk-less : o ≡ Less → BehindAt k s i h t j Off
-        walk-less z = record { says = walk-by ∙ rw z }
-
-        pub walk-more : o ≡ Greater → BehindAt k s i h t j Off
-        walk-more z = record { says = walk-by ∙ rw z }
+        pub walk-off : z ≡ false → BehindAt k s i h t j Off
+        walk-off d = record { says = walk-by ∙ rw d }
 
 -- `follow_bodies`
 module _ (k : Seps) (s : List ℕ) (i : ℕ) (h : Seps) (t : List ℕ) (j : ℕ) (x : i ≤ length s) (y : j ≤ length t) (n : ℕ) (m : SkipAt k s i h t j n) where
@@ -101,11 +96,12 @@ module _ (k : Seps) (s : List ℕ) (i : ℕ) (h : Seps) (t : List ℕ) (j : ℕ)
   unfolding leftBody
   skip-left = rw (m .first, m .second, length-append (m .ahead) (from (isSep h) (dots h) t (j + n))) (drop-append-add (m .ahead) _ _)
 
-  pub skip-behind : (r : Place) → BehindAt k s (i + n) h t (j + n) r → BehindAt k s i h t j r
+  pub skip-behind : (r : After) → BehindAt k s (i + n) h t (j + n) r → BehindAt k s i h t j r
   skip-behind Off b = record { says = skip-starts ∙ b .says }
-  skip-behind (At z) b = record { says = record { starts = skip-starts ∙ b .says .starts; left = skip-left ∙ b .says .left } }
+  skip-behind (Head z) b = absurd (b .says)
+  skip-behind (Body z) b = record { says = record { starts = skip-starts ∙ b .says .starts; left = skip-left ∙ b .says .left } }
 
-pub ruleset pieces = (walk-end, walk-short, walk-left, walk-on, walk-less, walk-more, skip-behind)
+pub ruleset pieces = (walk-end, walk-short, walk-left, walk-on, walk-off, skip-behind)
 
 -- ---- heads
 pub by-prefix : {A : Type 0} (p : Parsed) → (p ≡ Without → A) → ((x : Prefix) → p ≡ Is x → A) → A
@@ -230,7 +226,7 @@ module _ (k : Seps) (s : List ℕ) (g : Start) (o : OpenAt k s g) where
   plain-kind Implied m h = omega arith
   plain-kind Dot m h = omega arith
 
-  plain-first : g .prefix ≡ Without → isPrefix (nthOf (listOf k s) 0) ≡ false
+  pub plain-first : g .prefix ≡ Without → isPrefix (nthOf (listOf k s) 0) ≡ false
   unfolding valuesOf
   plain-first e =
       let m = bodyValues (g .seps) s (g .at) in
@@ -243,10 +239,10 @@ module _ (k : Seps) (s : List ℕ) (g : Start) (o : OpenAt k s g) (t : List ℕ)
   unfolding startsOf
   starts-by x f = starts-meet (valuesOf k s) (valuesOf k t) ∙ rw f
 
-  pub follow-apart : (x : Ordering) → m ≡ Apart x → AfterAt k s g t Nowhere
+  pub follow-apart : (x : Ordering) → m ≡ Apart x → AfterAt k s g t Off
   follow-apart x f = record { says = starts-by (Apart x) (whole-apart k s g o t h q m e x f) }
 
-  pub follow-second : m ≡ Second → AfterAt k s g t Nowhere
+  pub follow-second : m ≡ Second → AfterAt k s g t Off
   follow-second f =
       let b = isNil (bodyValues (g .seps) s (g .at)) in
       record {
@@ -280,7 +276,7 @@ module _ (k : Seps) (s : List ℕ) (g : Start) (o : OpenAt k s g) (t : List ℕ)
     unfolding lonely
     first-nil f = rw (first-bare s g t h m e f)
 
-    pub follow-first-off : m ≡ First → b ≡ false → AfterAt k s g t Nowhere
+    pub follow-first-off : m ≡ First → b ≡ false → AfterAt k s g t Off
     follow-first-off f y = record { says = starts-by (Apart Less) (whole-first-more k s g o t h q m e b f (z ∙ first-nil f) y) }
 
     pub follow-first-head : (a : ℕ) → m ≡ First → b ≡ true → a ≡ headStart (h .prefix) (g .end) → AfterAt k s g t (Head a)
@@ -295,9 +291,6 @@ module _ (k : Seps) (s : List ℕ) (g : Start) (o : OpenAt k s g) (t : List ℕ)
     starts-bodies : startsOf k s t ≡ startsBody (g .seps) s (g .at) (h .seps) t (h .at)
     unfolding startsBody
     starts-bodies = starts-by _ (whole-same k s g o t h q m e f) ∙ sym (starts-meet _ _)
-
-    pub follow-same-off : (p : Place) → BehindAt (g .seps) s (g .at) (h .seps) t (h .at) p → p ≡ Off → AfterAt k s g t Nowhere
-    follow-same-off p b x = record { says = starts-bodies ∙ (rw x at (b .says)) }
 
     module _ (b : Bool) (z : b ≡ lonely t h) where
       pub follow-same-head : (a : ℕ) → b ≡ true → a ≡ headStart (h .prefix) (g .end) → AfterAt k s g t (Head a)
@@ -351,12 +344,14 @@ module _ (k : Seps) (s : List ℕ) (g : Start) (o : OpenAt k s g) (t : List ℕ)
         in-body : InBody k s g t x
         in-body = record { starts = starts-bodies ∙ w .starts; some = some-taken; beyond = beyond-prefix; left = left-is }
 
-      pub follow-same-body : (p : Place) (x : ℕ) → b ≡ false → BehindAt (g .seps) s (g .at) (h .seps) t (h .at) p → p ≡ At x → AfterAt k s g t (Body x)
-      follow-same-body p x n w y = record { says = in-body n x (rw y at (w .says)) }
+      pub follow-same : b ≡ false → (r : After) → BehindAt (g .seps) s (g .at) (h .seps) t (h .at) r → AfterAt k s g t r
+      follow-same n Off w = record { says = starts-bodies ∙ w .says }
+      follow-same n (Head a) w = absurd (w .says)
+      follow-same n (Body x) w = record { says = in-body n x (w .says) }
 
 -- `starts_with`
 module _ (k : Seps) (s : List ℕ) (g : Start) (t : List ℕ) (a : After) (f : AfterAt k s g t a) where
-  pub starts-not : a ≡ Nowhere → false ≡ startsOf k s t
+  pub starts-not : a ≡ Off → false ≡ startsOf k s t
   starts-not e = sym (rw e at (f .says))
 
   pub after-head : (x : ℕ) → a ≡ Head x → AtHead k s g t x
@@ -371,4 +366,4 @@ module _ (k : Seps) (s : List ℕ) (g : Start) (t : List ℕ) (a : After) (f : A
   pub starts-body : (x : ℕ) → a ≡ Body x → true ≡ startsOf k s t
   starts-body x e = sym (after-body x e .starts)
 
-pub ruleset follows = (lone-bare, lone-not, follow-apart, follow-second, follow-first-off, follow-first-head, follow-same-off, follow-same-head, follow-same-body, starts-not, starts-head, starts-body)
+pub ruleset follows = (lone-bare, lone-not, follow-apart, follow-second, follow-first-off, follow-first-head, follow-same-head, follow-same, starts-not, starts-head, starts-body)

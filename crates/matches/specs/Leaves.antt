@@ -26,10 +26,8 @@ use Rattle.order.specs.declared.Heads.the-variants.{Same, Apart, First, Second}
 use Rattle.order.specs.Values.{Value, prefixValue, valuesIn}
 use Rattle.order.specs.Heads.{leadKind}
 use Rattle.order.specs.Leaves.{dirRank, headValues, bodyValues, isNil}
-use Rattle.matches.specs.declared.Place.{Place}
-use Rattle.matches.specs.declared.Place.the-variants.{Off, At}
 use Rattle.matches.specs.declared.After.{After}
-use Rattle.matches.specs.declared.After.the-variants.{Off as Nowhere, Head, Body}
+use Rattle.matches.specs.declared.After.the-variants.{Off, Head, Body}
 use Rattle.matches.specs.Match.{same, startsWith, startsOf}
 
 -- the first of two lists that meet so starts with the second
@@ -51,11 +49,13 @@ pub record Behind (k : Seps) (s : List ℕ) (i : ℕ) (h : Seps) (t : List ℕ) 
   pub starts : startsBody k s i h t j ≡ true
   pub left : leftBody k s i h t j ≡ from (isSep k) (dots k) s x
 
-abbrev pub BehindSays : Seps → List ℕ → ℕ → Seps → List ℕ → ℕ → Place → Type 0
+-- of bodies nothing is left to a head
+abbrev pub BehindSays : Seps → List ℕ → ℕ → Seps → List ℕ → ℕ → After → Type 0
 BehindSays k s i h t j Off = startsBody k s i h t j ≡ false
-BehindSays k s i h t j (At x) = Behind k s i h t j x
+BehindSays k s i h t j (Head a) = ⊥
+BehindSays k s i h t j (Body x) = Behind k s i h t j x
 
-pub record BehindAt (k : Seps) (s : List ℕ) (i : ℕ) (h : Seps) (t : List ℕ) (j : ℕ) (r : Place) : Type 0 where
+pub record BehindAt (k : Seps) (s : List ℕ) (i : ℕ) (h : Seps) (t : List ℕ) (j : ℕ) (r : After) : Type 0 where
   pub says : BehindSays k s i h t j r
 
 -- t, whose head is h, is nothing, or nothing but a prefix
@@ -83,7 +83,7 @@ pub record InBody (k : Seps) (s : List ℕ) (g : Start) (t : List ℕ) (x : ℕ)
   pub left : drop (length (listOf k t)) (listOf k s) ≡ from (isSep (g .seps)) (dots (g .seps)) s x
 
 abbrev pub AfterSays : Seps → List ℕ → Start → List ℕ → After → Type 0
-AfterSays k s g t Nowhere = startsOf k s t ≡ false
+AfterSays k s g t Off = startsOf k s t ≡ false
 AfterSays k s g t (Head a) = AtHead k s g t a
 AfterSays k s g t (Body x) = InBody k s g t x
 
@@ -103,10 +103,6 @@ abbrev pub isDot : Kind → Bool
 isDot Dot = true
 isDot DotDot = false
 isDot Name = false
-
-abbrev pub prefixless : Parsed → Bool
-prefixless Nothing = true
-prefixless (Is p) = false
 
 -- what is known of the head g of s: its names lie in s, a dot stands in it alone, and without a head no dot stands first
 pub record Begun (s : List ℕ) (g : Start) : Type 0 where

@@ -21,7 +21,7 @@ use Rattle.answers.specs.Laws.{absent, done}
 use Rattle.prefixes.specs.declared.Prefix.{Prefix}
 use Rattle.prefixes.specs.declared.Parsed.{Parsed}
 use Rattle.prefixes.specs.declared.Parsed.the-variants.{Nothing as Without, Is}
-use Rattle.prefixes.specs.Prefix.{endOfPrefix}
+use Rattle.prefixes.specs.Prefix.{endOfPrefix, onDisk}
 use Rattle.parts.specs.declared.Element.{Element}
 use Rattle.parts.specs.declared.Item.the-variants.{Here}
 use Rattle.parts.specs.declared.Part.{Part}
@@ -38,11 +38,11 @@ use Rattle.components.specs.List.{dirLen, startOf, prefixPart, dirPart, headLis
 use Rattle.components.specs.Leaves.{OpenAt}
 use Rattle.components.specs.Laws.{whole-list}
 use Rattle.cursors.specs.declared.Span.{Span}
-use Rattle.cursors.specs.Rest.{span, viewOf, isPrefix, leftEnd, emptyAt, onDisk, isBare, dotted, behindDot, restOf}
+use Rattle.cursors.specs.Rest.{span, viewOf, isPrefix, leftEnd, emptyAt, isBare, dotted, behindDot, restOf}
 use Rattle.order.specs.Values.{Value, valuesOf}
 use Rattle.order.specs.Ordered.{each}
 use Rattle.matches.specs.declared.After.{After}
-use Rattle.matches.specs.declared.After.the-variants.{Off as Nowhere, Head, Body}
+use Rattle.matches.specs.declared.After.the-variants.{Off, Head, Body}
 use Rattle.matches.specs.Match.{same, startsWith, startsOf}
 use Rattle.matches.specs.Strip.{stripOf}
 use Rattle.matches.specs.Laws.{by-prefix, values-long, prefix-first, starts-not, after-head, after-body}
@@ -271,7 +271,7 @@ starts-long (u ∷ l) (v ∷ m) e =
 
 -- `strip_prefix`: a is what `follow` told
 module _ (k : Seps) (s : List ℕ) (g : Start) (o : OpenAt k s g) (t : List ℕ) (a : After) (f : AfterAt k s g t a) where
-  pub strip-off : (r : View) → a ≡ Nowhere → r ≡ refusedView Absent → r ≡ told refusedView (stripOf k s t)
+  pub strip-off : (r : View) → a ≡ Off → r ≡ refusedView Absent → r ≡ told refusedView (stripOf k s t)
   unfolding stripOf
   strip-off r e z = absent refusedView r (startsOf k s t) z _ (sym (starts-not k s g t a f e))
 

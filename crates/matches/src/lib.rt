@@ -18,15 +18,9 @@ ghost use Rattle.components.specs.Leaves.{OpenAt};
 ghost use Rattle.answers.specs.Reply.{refusedView};
 ghost use Rattle.answers.specs.Outcome.{told};
 ghost use Rattle.order.specs.Leaves.{headValues};
-ghost use Rattle.matches.specs.Match.{startsOf, endsWith, endsOf};
+ghost use Rattle.matches.specs.Match.{isEqual, startsOf, endsWith, endsOf};
 ghost use Rattle.matches.specs.Strip.{stripOf};
-ghost use Rattle.matches.specs.Leaves.{isDot, headStart, lonely, BehindAt, AfterAt, LastEnd, Begun, prefixless, frontOf, samePrefix};
-
-// Where a base ends in a path's body: it is no base of it, or at a place.
-pub enum Place {
-    Off,
-    At(usize),
-}
+ghost use Rattle.matches.specs.Leaves.{isDot, headStart, lonely, BehindAt, AfterAt, LastEnd, Begun, frontOf, samePrefix};
 
 // What a base leaves of a path: it is no base; nothing but the prefix is gone, if that, and the rest starts at a place; or
 // the body from a place on.
@@ -36,47 +30,43 @@ pub enum After {
     Body(usize),
 }
 
+fn is_equal(o: Ordering) -> bool
+    ensures { λ r. ⌜ r ≡ isEqual o ⌝ }
+{
+    match o {
+        Ordering::Less => false,
+        Ordering::Equal => true,
+        Ordering::Greater => false,
+    }
+}
+
 // Whether the parts of s from i on start with those of t from j on, and where they go on behind them.
-fn walk(k: Seps, s: &[u8], i: usize, h: Seps, t: &[u8], j: usize) -> Place
+fn walk(k: Seps, s: &[u8], i: usize, h: Seps, t: &[u8], j: usize) -> After
     ensures { λ r. ⌜ BehindAt k (now (s .entry)) i h (now (t .entry)) j r ⌝ }
 {
     let mut x = i;
     let mut y = j;
     loop {
         let q = parts::first(h, t, y);
-        match q {
-            Piece::Nothing => {
-                return Place::At(x);
-            }
-            Piece::Found(b) => {
-                let p = parts::first(k, s, x);
-                match p {
-                    Piece::Nothing => {
-                        return Place::Off;
-                    }
-                    Piece::Found(a) => {
-                        let o = order::cmp_part(s, a, t, b);
-                        match o {
-                            Ordering::Equal => {
-                                x = a.start + a.len + 1;
-                                y = b.start + b.len + 1;
-                            }
-                            Ordering::Less => {
-                                return Place::Off;
-                            }
-                            Ordering::Greater => {
-                                return Place::Off;
-                            }
-                        }
-                    }
-                }
-            }
+        let Piece::Found(b) = q else {
+            return After::Body(x);
+        };
+        let p = parts::first(k, s, x);
+        let Piece::Found(a) = p else {
+            return After::Off;
+        };
+        let o = order::cmp_part(s, a, t, b);
+        if is_equal(o) {
+            x = a.start + a.len + 1;
+            y = b.start + b.len + 1;
+        } else {
+            return After::Off;
         }
     }
 }
 
 // The same of the bodies behind the heads g and h.
-fn follow_bodies(s: &[u8], g: Start, t: &[u8], h: Start) -> Place
+fn follow_bodies(s: &[u8], g: Start, t: &[u8], h: Start) -> After
     requires { ⌜ (g .at ≤ length (now s)) × (h .at ≤ length (now t)) ⌝ }
     ensures { λ r. ⌜ BehindAt (g .seps) (now (s .entry)) (g .at) (h .seps) (now (t .entry)) (h .at) r ⌝ }
 {
@@ -136,11 +126,7 @@ fn follow(k: Seps, s: &[u8], g: Start, t: &[u8]) -> After
     if is_lone(h, t) {
         return After::Head(head_start(q, g.end));
     }
-    let b = follow_bodies(s, g, t, h);
-    match b {
-        Place::Off => After::Off,
-        Place::At(x) => After::Body(x),
-    }
+    follow_bodies(s, g, t, h)
 }
 
 pub fn starts_with(k: Seps, s: &[u8], t: &[u8]) -> bool
@@ -220,17 +206,6 @@ fn is_dot(k: Kind) -> bool
     }
 }
 
-// Whether a head has no prefix.
-fn has_none(h: Start) -> bool
-    ensures { λ r. ⌜ r ≡ prefixless (h .prefix) ⌝ }
-{
-    let q = h.prefix;
-    match q {
-        Parsed::Nothing => true,
-        Parsed::Is(_) => false,
-    }
-}
-
 // Whether both heads have a prefix, and it is the same.
 fn same_prefix(s: &[u8], p: Parsed, t: &[u8], q: Parsed) -> bool
     requires { ⌜ NamesIn (now s) (parsedFigures p) × NamesIn (now t) (parsedFigures q) ⌝ }
@@ -244,12 +219,7 @@ fn same_prefix(s: &[u8], p: Parsed, t: &[u8], q: Parsed) -> bool
     }
     let a = prefixes::figures_of(p);
     let b = prefixes::figures_of(q);
-    let o = order::cmp_prefix(s, a, t, b);
-    match o {
-        Ordering::Less => false,
-        Ordering::Equal => true,
-        Ordering::Greater => false,
-    }
+    is_equal(order::cmp_prefix(s, a, t, b))
 }
 
 // Whether the head g of s ends with the head h of t.
@@ -292,12 +262,13 @@ fn ends_head(s: &[u8], g: Start, x: usize, t: &[u8], h: Start) -> bool
         Piece::Found(a) => {
             let d = h.dir;
             let l = a.kind;
+            let q = h.prefix;
             let e = order::dir_rank(d);
             if e == 3 {
                 return is_dot(l);
             }
             if e == 0 {
-                return has_none(h);
+                return !prefixes::has_prefix(q);
             }
             false
         }
@@ -317,33 +288,19 @@ fn walk_back(s: &[u8], g: Start, t: &[u8], h: Start) -> bool
     let mut y = t.len();
     loop {
         let q = parts::last(l, t, to, y);
-        match q {
-            Piece::Nothing => {
-                return ends_head(s, g, x, t, h);
-            }
-            Piece::Found(b) => {
-                let p = parts::last(k, s, lo, x);
-                match p {
-                    Piece::Nothing => {
-                        return false;
-                    }
-                    Piece::Found(a) => {
-                        let o = order::cmp_part(s, a, t, b);
-                        match o {
-                            Ordering::Equal => {
-                                x = a.start;
-                                y = b.start;
-                            }
-                            Ordering::Less => {
-                                return false;
-                            }
-                            Ordering::Greater => {
-                                return false;
-                            }
-                        }
-                    }
-                }
-            }
+        let Piece::Found(b) = q else {
+            return ends_head(s, g, x, t, h);
+        };
+        let p = parts::last(k, s, lo, x);
+        let Piece::Found(a) = p else {
+            return false;
+        };
+        let o = order::cmp_part(s, a, t, b);
+        if is_equal(o) {
+            x = a.start;
+            y = b.start;
+        } else {
+            return false;
         }
     }
 }

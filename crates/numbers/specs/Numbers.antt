@@ -54,6 +54,6 @@ stepNumbers a = numberOf (a .reply) ∷ takenNumber (a .component) ∷ figureNum
 unfoldable pub viewNumbers : View → List ℕ
 viewNumbers a = numberOf (a .reply) ∷ a .start ∷ a .len ∷ []
 
--- a test's 0 or 1; of an order "0 where P comes first, 1 where they are equal, 2 where Q comes first"
+-- a test's 0 or 1; of an order 0 where P comes first, 1 where they are equal, 2 where Q comes first
 unfoldable pub verdictNumbers : Verdict → List ℕ
 verdictNumbers a = numberOf (a .reply) ∷ a .value ∷ []

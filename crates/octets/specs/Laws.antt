@@ -11,7 +11,7 @@ use mathlib.Core.Path.{_≡_, refl, sym, _∙_}
 use borrow.Author.Tests.{eq-eqb, ne-eqb, le-leb, lt-leb, ltb-true, ltb-false}
 use Rattle.octets.specs.Class.{classOf, isLetterClass, isLetter, isSep, sepsOf}
 use Rattle.octets.specs.Segment.{lead, endOf, EndAt}
-use Rattle.octets.specs.Leaves.{lowMark, highMark, marked, ClearAt, SkipAt, ScanAt}
+use Rattle.octets.specs.Leaves.{lowMark, highMark, marked, ClearAt, ClearTo, ScanAt}
 use Rattle.octets.specs.declared.Seps.{Seps}
 use Rattle.octets.specs.declared.Class.{Class}
 use Rattle.octets.specs.declared.Seps.the-variants.{Unix, Windows, Verbatim}
@@ -147,10 +147,10 @@ pub ruleset clears = (clear-start, clear-next, clear-end)
 
 -- `skip_clear`, `scan`, `far_sep`, `next_sep`
 module _ (sep : ℕ → Bool) (s : List ℕ) (at : ℕ) where
-  pub skip-start : at ≤ length s → SkipAt sep s at at
+  pub skip-start : at ≤ length s → ClearTo sep s at at
   skip-start h = record { low = omega arith; high = h; same = refl }
 
-  pub skip-on : (i : ℕ) (c : Bool) → SkipAt sep s at i → ClearAt sep s i (i + 16) c → c ≡ true → i + 16 ≤ length s → SkipAt sep s at (i + 16)
+  pub skip-on : (i : ℕ) (c : Bool) → ClearTo sep s at i → ClearAt sep s i (i + 16) c → c ≡ true → i + 16 ≤ length s → ClearTo sep s at (i + 16)
   skip-on i c h d y m = record { low = omega (arith, h .low); high = m; same = h .same ∙ d .on y }
 
   module _ (i end : ℕ) (e : endOf sep s at ≡ endOf sep s i) (m : end ≤ length s) where
@@ -164,7 +164,7 @@ module _ (sep : ℕ → Bool) (s : List ℕ) (at : ℕ) where
     pub scan-none : at ≤ i → i ≤ end → end ≤ i → ScanAt sep s at end i
     scan-none l k h = record { low = l; high = k; same = e; stop = λ f. absurd (omega arith) }
 
-  pub far-is : (i r : ℕ) → SkipAt sep s at i → ScanAt sep s i (length s) r → EndAt sep s at r
+  pub far-is : (i r : ℕ) → ClearTo sep s at i → ScanAt sep s i (length s) r → EndAt sep s at r
   far-is i r h d =
       let g : endOf sep s r ≡ r = split (ltb r (length s)) (λ e. d .stop (ltb-true r (length s) e)) (λ e. end-out sep s r (ltb-false r (length s) e)) in
       record { is = sym (h .same ∙ d .same ∙ g); low = omega (arith, h .low, d .low); high = d .high }

@@ -28,7 +28,7 @@ pub record ClearAt (sep : ℕ → Bool) (s : List ℕ) (i n : ℕ) (c : Bool) : 
   pub on : c ≡ true → endOf sep s i ≡ endOf sep s n
 
 -- no separator stands between i and r
-pub record SkipAt (sep : ℕ → Bool) (s : List ℕ) (i r : ℕ) : Type 0 where
+pub record ClearTo (sep : ℕ → Bool) (s : List ℕ) (i r : ℕ) : Type 0 where
   pub low : i ≤ r
   pub high : r ≤ length s
   pub same : endOf sep s i ≡ endOf sep s r

@@ -5,7 +5,7 @@ ghost use Prim.Native.Nat.{_+_, _≤_};
 ghost use lib.ListN.{length};
 ghost use Rattle.octets.specs.Class.{classOf, isLetterClass, isLetter, isSep, sepsOf};
 ghost use Rattle.octets.specs.Segment.{EndAt};
-ghost use Rattle.octets.specs.Leaves.{lowMark, highMark, marked, ClearAt, SkipAt, ScanAt};
+ghost use Rattle.octets.specs.Leaves.{lowMark, highMark, marked, ClearAt, ClearTo, ScanAt};
 
 // The longest input that is taken; `limit` of specs/Class.antt is its name in every definition.
 pub const LIMIT: usize = 4096;
@@ -143,7 +143,7 @@ fn is_clear(k: Seps, s: &[u8], i: usize) -> bool
 // Past blocks of 16 bytes without a separator.
 fn skip_clear(k: Seps, s: &[u8], at: usize) -> usize
     requires { ⌜ at ≤ length (now s) ⌝ }
-    ensures { λ r. ⌜ SkipAt (isSep k) (now (s .entry)) at r ⌝ }
+    ensures { λ r. ⌜ ClearTo (isSep k) (now (s .entry)) at r ⌝ }
 {
     let mut i = at;
     while i + 16 <= s.len() {

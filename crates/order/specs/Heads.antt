@@ -225,7 +225,7 @@ unfolding valuesIn
 prefix-values s Nothing e = refl
 prefix-values s (Is p) e = refl
 
-dir-values : (s : List ℕ) (d : Dir) (e : ℕ) → valuesIn s (dirPart d e) ≡ dirValues (dirRank d)
+pub dir-values : (s : List ℕ) (d : Dir) (e : ℕ) → valuesIn s (dirPart d e) ≡ dirValues (dirRank d)
 unfolding valuesIn dirValues
 dir-values s Bare e = refl
 dir-values s Root e = refl

@@ -31,8 +31,8 @@ use Rattle.parts.specs.declared.Part.{Part}
 use Rattle.parts.specs.declared.Piece.{Piece}
 use Rattle.parts.specs.declared.Piece.the-variants.{Nothing, Found}
 use Rattle.parts.specs.Body.{componentOf, dots, from}
-use Rattle.parts.specs.Elements.{Upto}
-use Rattle.parts.specs.Steps.{lift, FirstAt, within}
+use Rattle.parts.specs.Elements.{bytesAt, Upto}
+use Rattle.parts.specs.Steps.{isName, lift, FirstAt, within}
 use Rattle.parts.specs.Laws.{first-none, first-found, from-upto, Bodily, Goods, from-good, cut}
 use Rattle.components.specs.declared.Dir.{Dir}
 use Rattle.components.specs.declared.Dir.the-variants.{Bare, Root, Implied, Dot}
@@ -43,10 +43,10 @@ use Rattle.order.specs.declared.Ordering.{Ordering}
 use Rattle.order.specs.declared.Ordering.the-variants.{Less, Equal, Greater}
 use Rattle.order.specs.declared.Heads.{Heads}
 use Rattle.order.specs.declared.Heads.the-variants.{Same, Apart, First, Second}
-use Rattle.order.specs.Values.{valued, bytesAt, prefixValue, valueBy, valueOf, valuesIn, valuesOf}
+use Rattle.order.specs.Values.{valued, prefixValue, valueBy, valueOf, valuesIn, valuesOf}
 use Rattle.order.specs.Order.{andThen, cmpNat, lexical, cmpBytes, cmpValue, cmpValues, compareOf}
 use Rattle.order.specs.Ordered.{each, itself, nat-ordered, value-ordered, nat-less, nat-more, nat-same, lists-skip}
-use Rattle.order.specs.Leaves.{Least, Differ, cmpFrom, rankOf, named, dirRank, dirValues, headValues, bodyValues, isNil, meetThen, meet, orderOf, meetFirst, meetSecond, sepsNumber, SeamAt, SkipAt}
+use Rattle.order.specs.Leaves.{Least, Differ, cmpFrom, rankOf, dirRank, dirValues, headValues, bodyValues, isNil, meetThen, meet, orderOf, meetFirst, meetSecond, sepsNumber, SeamAt, SkipAt}
 use Rattle.order.specs.Heads.{values-append, kind-less, kind-more, cmp-meet, meet-skip, whole-same, whole-apart, whole-first-end, whole-first-more, whole-second-end, whole-second-more, head-values}
 
 -- `least`
@@ -141,13 +141,13 @@ ranks-one Name LoneDot e = absurd (omega (arith, e))
 ranks-one Name DotDot e = absurd (omega (arith, e))
 ranks-one Name Name e = refl
 
-names-by : (s : List ℕ) (i n : ℕ) (t : List ℕ) (j m : ℕ) (k : Kind) → named k ≡ true → cmpValue (valueBy s (componentOf k) i n) (valueBy t (componentOf k) j m) ≡ cmpBytes (bytesAt s i n) (bytesAt t j m)
+names-by : (s : List ℕ) (i n : ℕ) (t : List ℕ) (j m : ℕ) (k : Kind) → isName k ≡ true → cmpValue (valueBy s (componentOf k) i n) (valueBy t (componentOf k) j m) ≡ cmpBytes (bytesAt s i n) (bytesAt t j m)
 unfolding cmpValue cmpNat lexical
 names-by s i n t j m LoneDot e = absurd (false≢true e)
 names-by s i n t j m DotDot e = absurd (false≢true e)
 names-by s i n t j m Name e = then-none _
 
-nameless : (s : List ℕ) (i n : ℕ) (t : List ℕ) (j m : ℕ) (k : Kind) → named k ≡ false → cmpValue (valueBy s (componentOf k) i n) (valueBy t (componentOf k) j m) ≡ Equal
+nameless : (s : List ℕ) (i n : ℕ) (t : List ℕ) (j m : ℕ) (k : Kind) → isName k ≡ false → cmpValue (valueBy s (componentOf k) i n) (valueBy t (componentOf k) j m) ≡ Equal
 unfolding cmpValue cmpNat lexical
 nameless s i n t j m LoneDot e = refl
 nameless s i n t j m DotDot e = refl
@@ -164,7 +164,7 @@ module _ (s : List ℕ) (p : Part) (t : List ℕ) (q : Part) (a : ℕ) (x : a �
   part-more h =
       rw (kind-rank s (p .kind) (p .start) (p .len), kind-rank t (q .kind) (q .start) (q .len), ← x, ← y) (rw (nat-more a b h))
 
-  module _ (g : a ≤ b) (h : b ≤ a) (c : Bool) (z : c ≡ named (p .kind)) where
+  module _ (g : a ≤ b) (h : b ≤ a) (c : Bool) (z : c ≡ isName (p .kind)) where
     kinds : q .kind ≡ p .kind
     kinds = ranks-one (q .kind) (p .kind) (omega arith)
 

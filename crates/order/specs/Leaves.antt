@@ -67,11 +67,6 @@ rankOf Dot = 3
 rankOf DotDot = 4
 rankOf Name = 5
 
-abbrev pub named : Kind → Bool
-named Dot = false
-named DotDot = false
-named Name = true
-
 -- the kind of step 2's value, and 0 for none
 abbrev pub dirRank : Dir → ℕ
 dirRank Bare = 0

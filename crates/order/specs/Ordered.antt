@@ -55,21 +55,21 @@ module _ (a b : ℕ) where
   nat-told-equal e = nat-by (λ h. less-not-equal (sym (nat-less h) ∙ e)) (λ h. h) (λ h. greater-not-equal (sym (nat-more h) ∙ e))
 
 -- ---- what makes a comparison an order
-abbrev pub turned : Ordering → Ordering
-turned Less = Greater
-turned Equal = Equal
-turned Greater = Less
+abbrev pub swapped : Ordering → Ordering
+swapped Less = Greater
+swapped Equal = Equal
+swapped Greater = Less
 
 pub record Ordered {A : Type 0} (c : A → A → Ordering) : Type 0 where
   -- the other way round it tells the opposite
-  pub flips : (a b : A) → c b a ≡ turned (c a b)
+  pub flips : (a b : A) → c b a ≡ swapped (c a b)
   -- equals have the same order to all others
   pub alike : (a b d : A) → c a b ≡ Equal → c a d ≡ c b d
   pub goes : (a b d : A) → c a b ≡ Less → c b d ≡ Less → c a d ≡ Less
 
 -- a comparison told by its three values
 module _ {A : Type 0} {c : A → A → Ordering} (o : Ordered c) where
-  itself-by : (x : Ordering) → x ≡ turned x → x ≡ Equal
+  itself-by : (x : Ordering) → x ≡ swapped x → x ≡ Equal
   itself-by Less e = less-not-greater e
   itself-by Equal e = refl
   itself-by Greater e = less-not-greater (sym e)
@@ -79,7 +79,7 @@ module _ {A : Type 0} {c : A → A → Ordering} (o : Ordered c) where
 
   -- equals have the same order from all others
   behind : (a b d : A) → c a b ≡ Equal → c d a ≡ c d b
-  behind a b d e = o .flips a d ∙ ap turned (o .alike a b d e) ∙ sym (o .flips b d)
+  behind a b d e = o .flips a d ∙ ap swapped (o .alike a b d e) ∙ sym (o .flips b d)
 
 pub nat-ordered : Ordered cmpNat
 nat-ordered =
@@ -94,7 +94,7 @@ nat-ordered =
     }
 
 -- ---- one comparison, and where that is Equal another
-turn-then : (x y : Ordering) → turned (andThen x y) ≡ andThen (turned x) (turned y)
+turn-then : (x y : Ordering) → swapped (andThen x y) ≡ andThen (swapped x) (swapped y)
 turn-then Less y = refl
 turn-then Equal y = refl
 turn-then Greater y = refl
@@ -138,7 +138,7 @@ by-ordered f o = record { flips = λ a b. o .flips (f a) (f b); alike = λ a b d
 
 -- ---- lists
 module _ {A : Type 0} {c : A → A → Ordering} (o : Ordered c) where
-  lists-flip : (l m : List A) → lexical c m l ≡ turned (lexical c l m)
+  lists-flip : (l m : List A) → lexical c m l ≡ swapped (lexical c l m)
   unfolding lexical
   lists-flip [] [] = refl
   lists-flip [] (y ∷ m) = refl

@@ -1,13 +1,13 @@
 -- What of a path's elements is compared. Document 01, "Views over the list".
 use Prim.Native.Nat.{ℕ}
 use mathlib.Core.List.{List, [], map}
-use lib.ListN.{take, drop}
 use Rattle.octets.specs.declared.Seps.{Seps}
 use Rattle.prefixes.specs.declared.Figures.{Figures}
 use Rattle.prefixes.specs.Prefix.{figuresOf}
 use Rattle.parts.specs.declared.Component.{Component}
 use Rattle.parts.specs.declared.Component.the-variants.{Prefix, RootDir, CurDir, ParentDir, Normal}
 use Rattle.parts.specs.declared.Element.{Element}
+use Rattle.parts.specs.Elements.{bytesAt}
 use Rattle.components.specs.List.{listOf}
 
 -- "Equal means equal lists; extents are not compared": of an element there is its kind, and of a prefix its own kind, the
@@ -21,10 +21,6 @@ pub record Value : Type 0 where
 
 abbrev pub valued : ℕ → List ℕ → Value
 valued c w = record { kind = c; prefix = 0; letter = 0; name = w; share = [] }
-
--- n bytes of s from place i on
-abbrev pub bytesAt : List ℕ → ℕ → ℕ → List ℕ
-bytesAt s i n = take n (drop i s)
 
 -- "prefixes in the order Verbatim, VerbatimUNC, VerbatimDisk, DeviceNS, UNC, Disk, then their contents": as its figures number them
 abbrev pub prefixValue : List ℕ → Figures → Value

@@ -14,10 +14,11 @@ ghost use lib.ListN.{length, take};
 ghost use Rattle.octets.specs.Class.{isSep};
 ghost use Rattle.prefixes.specs.Prefix.{parsedFigures};
 ghost use Rattle.prefixes.specs.Leaves.{NamesIn};
+ghost use Rattle.parts.specs.Elements.{bytesAt};
 ghost use Rattle.parts.specs.Steps.{lift};
-ghost use Rattle.order.specs.Values.{bytesAt, prefixValue, valueOf};
+ghost use Rattle.order.specs.Values.{prefixValue, valueOf};
 ghost use Rattle.order.specs.Order.{andThen, cmpBytes, cmpValue, cmpValues, compareOf, orderNumber};
-ghost use Rattle.order.specs.Leaves.{Least, TwoAt, FourAt, EightAt, Differ, rankOf, named, dirRank, dirValues, headValues, bodyValues, isNil, meetThen, meet, meetFirst, meetSecond, sepsNumber, SeamAt, SkipAt};
+ghost use Rattle.order.specs.Leaves.{Least, TwoAt, FourAt, EightAt, Differ, rankOf, dirRank, dirValues, headValues, bodyValues, isNil, meetThen, meet, meetFirst, meetSecond, sepsNumber, SeamAt, SkipAt};
 
 pub enum Ordering {
     Less,
@@ -154,16 +155,6 @@ fn rank(k: Kind) -> usize
     }
 }
 
-fn is_named(k: Kind) -> bool
-    ensures { λ r. ⌜ r ≡ named k ⌝ }
-{
-    match k {
-        Kind::Dot => false,
-        Kind::DotDot => false,
-        Kind::Name => true,
-    }
-}
-
 // The order of a part p of s and a part q of t.
 pub fn cmp_part(s: &[u8], p: Part, t: &[u8], q: Part) -> Ordering
     requires { ⌜ (p .start + p .len ≤ length (now s)) × (q .start + q .len ≤ length (now t)) ⌝ }
@@ -179,7 +170,7 @@ pub fn cmp_part(s: &[u8], p: Part, t: &[u8], q: Part) -> Ordering
     if b < a {
         return Ordering::Greater;
     }
-    if is_named(k) {
+    if parts::is_name(k) {
         return cmp_name(s, p.start, p.len, t, q.start, q.len);
     }
     Ordering::Equal

@@ -31,7 +31,7 @@ use Rattle.parts.specs.declared.Sort.{Sort}
 use Rattle.parts.specs.declared.Sort.the-variants.{Skip, Is}
 use Rattle.parts.specs.Body.{componentOf, sortBy, sortOf, put, rest, body, from, sortAt}
 use Rattle.parts.specs.Elements.{nthOf, nthBackOf, endOr, Upto}
-use Rattle.parts.specs.Steps.{lift, raised, FirstAt, Took, within, BeginAt, LastAt, TookBack, BackAt, Behind}
+use Rattle.parts.specs.Steps.{lift, raised, FirstAt, Took, within, BeginAt, LastAt, TookBack, BackAt, GoesBack}
 
 module _ (sep : ℕ → Bool) (v : Bool) where
   -- behind the first separator stands the body of what follows it
@@ -430,7 +430,7 @@ module _ (sep : ℕ → Bool) (v : Bool) (s : List ℕ) (lo hi : ℕ) (r : Piece
       go (Found p) f = sym (back-last (within sep v s lo hi) (within sep v s lo (p .start)) (lift p) (f .is))
 
 -- `walk_back`: t says what the loop has kept, n parts to go from hi
-module _ (l : List Element) (b : ℕ) (sep : ℕ → Bool) (v : Bool) (s : List ℕ) (lo hi n : ℕ) (t : Behind l b (within sep v s lo hi) n) (c : hi ≤ length s) where
+module _ (l : List Element) (b : ℕ) (sep : ℕ → Bool) (v : Bool) (s : List ℕ) (lo hi n : ℕ) (t : GoesBack l b (within sep v s lo hi) n) (c : hi ≤ length s) where
   pub walk-out : hi ≤ lo → length l + n ≡ b
   walk-out h = omega (arith, t .left, ap length (within-none sep v s lo hi h c))
 
@@ -462,7 +462,7 @@ module _ (l : List Element) (b : ℕ) (sep : ℕ → Bool) (v : Bool) (s : List 
       pub walk-end : (n ≡ 0 → ⊥) → i ≡ lo → length l + (n - 1) ≡ b
       walk-end z e = omega (arith, t .left, long, ap length (none e))
 
-      pub walk-on : (n ≡ 0 → ⊥) → (i ≡ lo → ⊥) → Behind l b (within sep v s lo (i - 1)) (n - 1)
+      pub walk-on : (n ≡ 0 → ⊥) → (i ≡ lo → ⊥) → GoesBack l b (within sep v s lo (i - 1)) (n - 1)
       walk-on z e =
           let m : n ≡ n - 1 + 1 = omega arith in
           record {
@@ -477,10 +477,10 @@ module _ (l : List Element) (b : ℕ) (sep : ℕ → Bool) (v : Bool) (s : List 
       pub walk-first : i ≡ lo → length l + n ≡ b
       walk-first e = omega (arith, t .left, ap length same-list, ap length (none e))
 
-      pub walk-skip : (i ≡ lo → ⊥) → Behind l b (within sep v s lo (i - 1)) n
+      pub walk-skip : (i ≡ lo → ⊥) → GoesBack l b (within sep v s lo (i - 1)) n
       walk-skip e = rw (← past e, ← same-list) t
 
-pub behind-all : (l : List Element) (b : ℕ) → Behind l b l b
+pub behind-all : (l : List Element) (b : ℕ) → GoesBack l b l b
 behind-all l b = record { same = refl; left = refl }
 
 -- `nth_back`
@@ -602,3 +602,10 @@ module _ (sep : ℕ → Bool) where
     pub from-good : (i : ℕ) → Goods sep v s (from sep v s i)
     unfolding from
     from-good i = segment-good i (drop i s) _ refl (rest-good i (drop i s) refl)
+
+    -- so is each of them
+    pub good-nth : (l : List Element) (f : ℕ) (p : Element) → Goods sep v s l → nthOf l f ≡ Here p → Good sep v s p
+    unfolding Goods nthOf
+    good-nth [] f p u e = let z : _≡_ {A = ℕ} 0 1 = cc in absurd (omega arith)
+    good-nth (x ∷ l) zero p u e = let z : x ≡ p = cc in rw z at (u .0)
+    good-nth (x ∷ l) (suc f) p u e = good-nth l f p (u .1) e

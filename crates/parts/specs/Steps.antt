@@ -2,13 +2,15 @@
 use Prim.Native.Nat.{ℕ, _+_, _-_, _^_, _<_, _≤_}
 use mathlib.Core.Path.{_≡_}
 use mathlib.Core.List.{List, [], _∷_, _++_}
-use mathlib.Core.Bool.{Bool, true}
+use mathlib.Core.Bool.{Bool, true, false}
 use mathlib.Core.Logic.{_⊎_}
 use lib.ListN.{length, getD, take}
 use Rattle.octets.specs.Segment.{endOf}
 use Rattle.parts.specs.declared.Element.{Element}
 use Rattle.parts.specs.declared.Item.{Item}
 use Rattle.parts.specs.declared.Item.the-variants.{Missing, Here}
+use Rattle.parts.specs.declared.Kind.{Kind}
+use Rattle.parts.specs.declared.Kind.the-variants.{Dot, DotDot, Name}
 use Rattle.parts.specs.declared.Part.{Part}
 use Rattle.parts.specs.declared.Piece.{Piece}
 use Rattle.parts.specs.declared.Piece.the-variants.{Nothing, Found}
@@ -16,6 +18,11 @@ use Rattle.parts.specs.declared.Back.{Back}
 use Rattle.parts.specs.declared.Back.the-variants.{At, Left}
 use Rattle.parts.specs.Body.{componentOf, from}
 use Rattle.parts.specs.Elements.{nthBackOf}
+
+abbrev pub isName : Kind → Bool
+isName Dot = false
+isName DotDot = false
+isName Name = true
 
 -- a part as an element of the list
 abbrev pub lift : Part → Element
@@ -87,6 +94,6 @@ BackAt l b (At p) = Here (lift p) ≡ nthBackOf l b
 BackAt l b (Left n) = length l + n ≡ b
 
 -- the walk goes on: n steps from the end of m stands what stands b steps from that of l
-pub record Behind (l : List Element) (b : ℕ) (m : List Element) (n : ℕ) : Type 0 where
+pub record GoesBack (l : List Element) (b : ℕ) (m : List Element) (n : ℕ) : Type 0 where
   pub same : nthBackOf l b ≡ nthBackOf m n
   pub left : length l + n ≡ length m + b

@@ -8,7 +8,7 @@ ghost use lib.ListN.{length};
 ghost use Rattle.octets.specs.Class.{isSep};
 ghost use Rattle.parts.specs.Body.{componentOf, dots, sortAt, from};
 ghost use Rattle.parts.specs.Elements.{nthOf, nthBackOf};
-ghost use Rattle.parts.specs.Steps.{raised, FirstAt, within, BeginAt, LastAt, BackAt};
+ghost use Rattle.parts.specs.Steps.{isName, raised, FirstAt, within, BeginAt, LastAt, BackAt};
 
 // Document 01's five kinds of component; the prefix is the whole of it.
 pub enum Component {
@@ -68,6 +68,16 @@ pub fn component_of(k: Kind) -> Component
         Kind::Dot => Component::CurDir,
         Kind::DotDot => Component::ParentDir,
         Kind::Name => Component::Normal,
+    }
+}
+
+pub fn is_name(k: Kind) -> bool
+    ensures { λ r. ⌜ r ≡ isName k ⌝ }
+{
+    match k {
+        Kind::Dot => false,
+        Kind::DotDot => false,
+        Kind::Name => true,
     }
 }
 

@@ -14,10 +14,9 @@ use Rattle.answers.specs.Reply.{refusedView, refusedVerdict, bit, judged}
 use Rattle.answers.specs.Outcome.{Outcome, told}
 use Rattle.answers.specs.Laws.{no-mode, too-long, second-long, both-well}
 use Rattle.order.specs.declared.Ordering.{Ordering}
-use Rattle.order.specs.declared.Ordering.the-variants.{Less, Equal, Greater}
-use Rattle.order.specs.Order.{compareOf}
+use Rattle.order.specs.Order.{compareOf, orderNumber}
 use Rattle.matches.specs.Strip.{stripOf}
-use Rattle.paths.specs.Pairs.{pairCall, rankOf, comparedAs, testedAs}
+use Rattle.paths.specs.Pairs.{pairCall, comparedAs, testedAs}
 
 module _ {A : Type 0} (no' : Reply → A) (f : Seps → List ℕ → List ℕ → Outcome A) (m : ℕ) (p q : List ℕ) (x : A) where
   pair-mode : x ≡ no' Mode → 1 < m → x ≡ told no' (pairCall f m p q)
@@ -47,25 +46,14 @@ module _ (f : Seps → List ℕ → List ℕ → Outcome Verdict) (m : ℕ) (p q
   pub verdict-second : x ≡ refusedVerdict Length → m ≤ 1 → length p ≤ limit → limit < length q → x ≡ told refusedVerdict (pairCall f m p q)
   verdict-second e g h l = pair-second refusedVerdict f m p q x e g h l
 
-module _ (m : ℕ) (p q : List ℕ) (x : Verdict) (k : Seps) (g : m ≤ 1) (h : length p ≤ limit) (l : length q ≤ limit) (j : k ≡ sepsOf m) where
-  pub compare-well : (o : Ordering) → o ≡ compareOf k p q → x ≡ judged (rankOf o) → x ≡ told refusedVerdict (pairCall comparedAs m p q)
+module _ (m : ℕ) (p q : List ℕ) (k : Seps) (g : m ≤ 1) (h : length p ≤ limit) (l : length q ≤ limit) (j : k ≡ sepsOf m) where
+  pub compare-well : (o : Ordering) (n : ℕ) → o ≡ compareOf k p q → n ≡ orderNumber o → judged n ≡ told refusedVerdict (pairCall comparedAs m p q)
   unfolding told
-  compare-well o e w = pair-well refusedVerdict comparedAs m p q x k g h l j (w ∙ rw e)
+  compare-well o n e v = pair-well refusedVerdict comparedAs m p q (judged n) k g h l j (rw (v, e))
 
-  pub pair-test : (t : Seps → List ℕ → List ℕ → Bool) (b : Bool) → b ≡ t k p q → x ≡ judged (bit b) → x ≡ told refusedVerdict (pairCall (testedAs t) m p q)
+  pub pair-test : (x : Verdict) (t : Seps → List ℕ → List ℕ → Bool) (b : Bool) → b ≡ t k p q → x ≡ judged (bit b) → x ≡ told refusedVerdict (pairCall (testedAs t) m p q)
   unfolding told
-  pair-test t b e w = pair-well refusedVerdict (testedAs t) m p q x k g h l j (w ∙ rw e)
-
--- `rank`
-module _ (o : Ordering) where
-  pub rank-less : o ≡ Less → judged 0 ≡ judged (rankOf o)
-  rank-less e = rw e
-
-  pub rank-equal : o ≡ Equal → judged 1 ≡ judged (rankOf o)
-  rank-equal e = rw e
-
-  pub rank-greater : o ≡ Greater → judged 2 ≡ judged (rankOf o)
-  rank-greater e = rw e
+  pair-test x t b e w = pair-well refusedVerdict (testedAs t) m p q x k g h l j (w ∙ rw e)
 
 -- a view
 module _ (m : ℕ) (p q : List ℕ) (x : View) where
@@ -81,4 +69,4 @@ module _ (m : ℕ) (p q : List ℕ) (x : View) where
   pub strip-well : (k : Seps) → m ≤ 1 → length p ≤ limit → length q ≤ limit → k ≡ sepsOf m → x ≡ told refusedView (stripOf k p q) → x ≡ told refusedView (pairCall stripOf m p q)
   strip-well k g h l j e = pair-well refusedView stripOf m p q x k g h l j e
 
-pub ruleset pairs = (verdict-mode, verdict-long, verdict-second, compare-well, pair-test, rank-less, rank-equal, rank-greater, strip-mode, strip-long, strip-second, strip-well)
+pub ruleset pairs = (verdict-mode, verdict-long, verdict-second, compare-well, pair-test, strip-mode, strip-long, strip-second, strip-well)

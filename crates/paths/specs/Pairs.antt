@@ -8,9 +8,7 @@ use Rattle.answers.specs.declared.Verdict.{Verdict}
 use Rattle.answers.specs.declared.View.{View}
 use Rattle.answers.specs.Reply.{bit, judged}
 use Rattle.answers.specs.Outcome.{Outcome, result, inMode, short}
-use Rattle.order.specs.declared.Ordering.{Ordering}
-use Rattle.order.specs.declared.Ordering.the-variants.{Less, Equal, Greater}
-use Rattle.order.specs.Order.{compareOf}
+use Rattle.order.specs.Order.{compareOf, orderNumber}
 use Rattle.matches.specs.Match.{startsOf, endsOf}
 use Rattle.matches.specs.Strip.{stripOf}
 
@@ -18,14 +16,8 @@ use Rattle.matches.specs.Strip.{stripOf}
 unfoldable pub pairCall : {A : Type 0} → (Seps → List ℕ → List ℕ → Outcome A) → ℕ → List ℕ → List ℕ → Outcome A
 pairCall f m p q = inMode m (short p (short q (f (sepsOf m) p q)))
 
--- 0 where the first comes first, 1 where they are equal, 2 where the second comes first
-abbrev pub rankOf : Ordering → ℕ
-rankOf Less = 0
-rankOf Equal = 1
-rankOf Greater = 2
-
 abbrev pub comparedAs : Seps → List ℕ → List ℕ → Outcome Verdict
-comparedAs k p q = result (judged (rankOf (compareOf k p q)))
+comparedAs k p q = result (judged (orderNumber (compareOf k p q)))
 
 abbrev pub testedAs : (Seps → List ℕ → List ℕ → Bool) → Seps → List ℕ → List ℕ → Outcome Verdict
 testedAs t k p q = result (judged (bit (t k p q)))

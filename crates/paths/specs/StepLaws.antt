@@ -19,7 +19,7 @@ use Rattle.answers.specs.Laws.{no-mode, too-long, all-well}
 use Rattle.parts.specs.declared.Element.{Element}
 use Rattle.parts.specs.declared.Item.{Item}
 use Rattle.parts.specs.declared.Item.the-variants.{Missing, Here}
-use Rattle.parts.specs.Elements.{nthOf, nthBackOf}
+use Rattle.parts.specs.Elements.{nthOf, nthBackOf, isHere}
 use Rattle.parts.specs.Laws.{nth-inside, back-inside-of}
 use Rattle.components.specs.List.{startOf, listOf}
 use Rattle.components.specs.Laws.{path-few}
@@ -33,7 +33,7 @@ use Rattle.cursors.specs.Laws.{beyond-says, spent-says, some-says, toomany-says
 use Rattle.paths.specs.declared.steps.Cursor.{Cursor}
 use Rattle.paths.specs.declared.steps.Taken.the-variants.{Is as Took}
 use Rattle.paths.specs.declared.steps.Stepped.{Stepped}
-use Rattle.paths.specs.Steps.{refusedStep, tookAt, isHere, stepAsked, nextIn, nextBackIn, nextCall, nextBackCall, restFor, restCall}
+use Rattle.paths.specs.Steps.{refusedStep, tookAt, stepAsked, nextIn, nextBackIn, nextCall, nextBackCall, restFor, restCall}
 
 -- `took`
 pub took-none : (i : Item) (c : Cursor) (r : Stepped) → i ≡ Missing → r ≡ refusedStep c Done → r ≡ tookAt i c

@@ -1,7 +1,7 @@
 -- The counted cursor's steps and its rest. Document 01, "A cursor is the mode and two numbers".
 use Prim.Native.Nat.{ℕ, _+_, _-_}
 use mathlib.Core.List.{List}
-use mathlib.Core.Bool.{Bool, true, false, not}
+use mathlib.Core.Bool.{not}
 use lib.ListN.{length}
 use lib.Dec.{eqb}
 use Rattle.octets.specs.Class.{sepsOf}
@@ -28,10 +28,6 @@ refusedStep c r = record { reply = r; component = Nothing; start = 0; len = 0; c
 abbrev pub tookAt : Item → Cursor → Stepped
 tookAt Missing c = refusedStep c Done
 tookAt (Here e) c = record { reply = Done; component = Is (e .component); start = e .start; len = e .len; cursor = c }
-
-abbrev pub isHere : Item → Bool
-isHere Missing = false
-isHere (Here e) = true
 
 -- a step that gives the element i of a list of n and hands back the cursor d: "more components taken than the path has"; "With
 -- f + b equal to the list's length: Absent."

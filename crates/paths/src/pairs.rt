@@ -2,30 +2,10 @@
 use answers::Reply;
 use answers::Verdict;
 use answers::View;
-use order::Ordering;
 ghost use mathlib.Core.Path.{_≡_};
-ghost use Rattle.answers.specs.Reply.{refusedView, refusedVerdict, judged};
+ghost use Rattle.answers.specs.Reply.{refusedView, refusedVerdict};
 ghost use Rattle.answers.specs.Outcome.{told};
-ghost use Rattle.paths.specs.Pairs.{rankOf, compareCall, startsCall, endsCall, stripCall};
-
-fn rank(o: Ordering) -> Verdict
-    ensures { λ a. ⌜ a ≡ judged (rankOf o) ⌝ }
-{
-    match o {
-        Ordering::Less => Verdict {
-            reply: Reply::Done,
-            value: 0,
-        },
-        Ordering::Equal => Verdict {
-            reply: Reply::Done,
-            value: 1,
-        },
-        Ordering::Greater => Verdict {
-            reply: Reply::Done,
-            value: 2,
-        },
-    }
-}
+ghost use Rattle.paths.specs.Pairs.{compareCall, startsCall, endsCall, stripCall};
 
 // 0 where p comes first, 1 where they are equal, 2 where q comes first.
 pub fn compare(mode: usize, p: &[u8], q: &[u8]) -> Verdict
@@ -40,7 +20,11 @@ pub fn compare(mode: usize, p: &[u8], q: &[u8]) -> Verdict
     if q.len() > octets::LIMIT {
         return answers::refuse_verdict(Reply::Length);
     }
-    rank(order::compare(octets::seps_of(mode), p, q))
+    let o = order::compare(octets::seps_of(mode), p, q);
+    Verdict {
+        reply: Reply::Done,
+        value: order::number(o),
+    }
 }
 
 // Whether p starts with q, by components.

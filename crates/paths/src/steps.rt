@@ -14,7 +14,8 @@ ghost use Rattle.octets.specs.Class.{limit};
 ghost use Rattle.components.specs.List.{listOf};
 ghost use Rattle.answers.specs.Reply.{refusedView};
 ghost use Rattle.answers.specs.Outcome.{told};
-ghost use Rattle.paths.specs.Steps.{refusedStep, tookAt, isHere, nextIn, nextBackIn, nextCall, nextBackCall, restCall};
+ghost use Rattle.parts.specs.Elements.{isHere};
+ghost use Rattle.paths.specs.Steps.{refusedStep, tookAt, nextIn, nextBackIn, nextCall, nextBackCall, restCall};
 
 pub struct Cursor {
     pub mode: usize,

@@ -8,7 +8,7 @@ use mathlib.Core.Path.{_≡_, refl, sym, ap, _∙_}
 use mathlib.Core.List.{List, [], _∷_}
 use mathlib.Core.Bool.{Bool, true, false, not, cond, false≢true}
 use lib.ListN.{length, getD, take, drop, drop-of-length-le, length-drop}
-use lib.Seq.{drop-cons, drop-drop, take-all}
+use lib.Seq.{drop-cons, take-all}
 use lib.Dec.{eqb, ltb, leb}
 use borrow.Author.Tests.{eq-eqb, ne-eqb, lt-ltb, le-ltb, ltb-true, ltb-false, eqb-true, eqb-false}
 use Rattle.octets.specs.Class.{classOf, isLetter, isSep}
@@ -248,29 +248,23 @@ behind : (b : ℕ) (s : List ℕ) → take (length s - b) (drop b s) ≡ drop b 
 behind b s = take-all (length s - b) (drop b s) (omega (arith, length-drop b s))
 
 -- `name_of`, `names_of`
-end-len : (sep : ℕ → Bool) (s : List ℕ) (i e : ℕ) → EndAt sep s i e → e - i ≡ length (lead sep (drop i s))
+end-len : (sep : ℕ → Bool) (t : List ℕ) (b e : ℕ) → EndAt sep t b e → e - b ≡ length (lead sep (drop b t))
 unfolding endOf
-end-len sep s i e h = omega (arith, h .is)
+end-len sep t b e h = omega (arith, h .is)
 
-module _ (sep : ℕ → Bool) (s : List ℕ) (i : ℕ) where
-  pub name-is : (e : ℕ) → EndAt sep s i e → record { start = i; len = e - i } ≡ nameOf sep i (drop i s)
+front-len : (sep : ℕ → Bool) (t : List ℕ) (n : ℕ) → EndAt sep t 0 n → n ≡ length (lead sep t)
+unfolding endOf
+front-len sep t n h = h .is ∙ omega arith
+
+module _ (sep : ℕ → Bool) (i : ℕ) (t : List ℕ) where
+  pub name-is : (n : ℕ) → EndAt sep t 0 n → record { start = i; len = n } ≡ nameOf sep i t
   unfolding nameOf
-  name-is e h = rw (end-len sep s i e h)
+  name-is n h = rw (front-len sep t n h)
 
-  module _ (a b : ℕ) (f : EndAt sep s i a) (g : Past a (length s) b) where
-    past-len : b ≡ i + past (length (lead sep (drop i s))) (length (drop i s))
-    unfolding past
-    past-len =
-        g .is ∙ rw (← end-len sep s i a f, length-drop i s) (split (ltb a (length s))
-        (λ e. let l : ltb (a - i) (length s - i) ≡ true = lt-ltb (a - i) (length s - i) (omega (arith, ltb-true a (length s) e, f .low)) in rw (e, l) (omega (arith, f .low)))
-        (λ e. let l : ltb (a - i) (length s - i) ≡ false = le-ltb (a - i) (length s - i) (omega (arith, ltb-false a (length s) e, f .low)) in rw (e, l) (omega (arith, f .low))))
-
-    past-drop : drop (past (length (lead sep (drop i s))) (length (drop i s))) (drop i s) ≡ drop b s
-    past-drop = rw (drop-drop, past-len)
-
-    pub names-are : (e : ℕ) → EndAt sep s b e → record { server = record { start = i; len = a - i }; share = record { start = b; len = e - b } } ≡ namesOf sep i (drop i s)
-    unfolding namesOf
-    names-are e h = rw (past-drop, ← past-len, end-len sep s i a f, end-len sep s b e h)
+  pub names-are : (a b e : ℕ) → EndAt sep t 0 a → Past a (length t) b → EndAt sep t b e
+      → record { server = record { start = i; len = a }; share = record { start = i + b; len = e - b } } ≡ namesOf sep i t
+  unfolding namesOf
+  names-are a b e f g h = rw (end-len sep t b e h, g .is, front-len sep t a f)
 
 -- `verbatim`, `unc`, `parse_prefix`: q, v, d are what the tests answered
 drop-fits : (w s : List ℕ) (b : ℕ) (q : Bool) → q ≡ begins w (drop b s) → q ≡ true → b ≤ length s → b + length w ≤ length s
@@ -281,18 +275,18 @@ module _ (s : List ℕ) where
     pub unc-eight : q ≡ true → 4 ≤ length s → 8 ≤ length s
     unc-eight y l = drop-fits (85 ∷ 78 ∷ 67 ∷ 92 ∷ []) s 4 q e y l
 
-    pub is-verbatim-unc : (n : Names) → q ≡ true → n ≡ namesOf (isSep OnlyBack) 8 (drop 8 s) → VerbatimUnc n ≡ verbatimOf s
+    pub is-verbatim-unc : (n : Names) → q ≡ true → n ≡ namesOf (isSep OnlyBack) 8 (part 8 s) → VerbatimUnc n ≡ verbatimOf s
     unfolding verbatimOf
-    is-verbatim-unc n y g = rw (g, ← e, y)
+    is-verbatim-unc n y g = rw (g, behind 8 s, ← e, y)
 
     module _ (d : Bool) (g : d ≡ driveExact (part 4 s)) (n : q ≡ false) where
       pub is-verbatim-disk : (x : ℕ) → d ≡ true → x ≡ capital (getD s 4 0) → VerbatimDisk x ≡ verbatimOf s
       unfolding verbatimOf
       is-verbatim-disk x y f = rw (f, ← e, n, ← (rw (behind 4 s) at g), y)
 
-      pub is-verbatim-name : (x : Name) → d ≡ false → x ≡ nameOf (isSep OnlyBack) 4 (drop 4 s) → Verbatim x ≡ verbatimOf s
+      pub is-verbatim-name : (x : Name) → d ≡ false → x ≡ nameOf (isSep OnlyBack) 4 (part 4 s) → Verbatim x ≡ verbatimOf s
       unfolding verbatimOf
-      is-verbatim-name x y f = rw (f, ← e, n, ← (rw (behind 4 s) at g), y)
+      is-verbatim-name x y f = rw (f, behind 4 s, ← e, n, ← (rw (behind 4 s) at g), y)
 
   pub exact-five : (d : Bool) → d ≡ driveExact (part 4 s) → d ≡ true → 4 < length s
   exact-five d g y = omega (arith, exact-long (drop 4 s) (rw (← behind 4 s) (sym g ∙ y)), length-drop 4 s)
@@ -315,13 +309,13 @@ module _ (s : List ℕ) where
     pub device-four : d ≡ true → 2 ≤ length s → 4 ≤ length s
     device-four y l = drop-fits (46 ∷ 92 ∷ []) s 2 d g y l
 
-    pub is-device : (n : Name) → d ≡ true → n ≡ nameOf (isSep Windows) 4 (drop 4 s) → Is (DeviceNs n) ≡ deviceOf s
+    pub is-device : (n : Name) → d ≡ true → n ≡ nameOf (isSep Windows) 4 (part 4 s) → Is (DeviceNs n) ≡ deviceOf s
     unfolding deviceOf
-    is-device n y h = rw (h, ← g, y)
+    is-device n y h = rw (h, behind 4 s, ← g, y)
 
-    pub is-unc : (u : Parsed) → d ≡ false → u ≡ uncOf (drop 2 s) → u ≡ deviceOf s
+    pub is-unc : (u : Parsed) → d ≡ false → u ≡ uncOf (part 2 s) → u ≡ deviceOf s
     unfolding deviceOf
-    is-unc u n h = h ∙ rw (← g, n)
+    is-unc u n h = h ∙ rw (behind 2 s, ← g, n)
 
   module _ (q : Bool) (e : q ≡ begins (92 ∷ 92 ∷ []) s) where
     module _ (y : q ≡ true) where
@@ -343,11 +337,11 @@ module _ (s : List ℕ) where
         unfolding prefixOf
         prefix-other p x g = rw (g, ← e, y, ← f, x)
 
-    pub prefix-none : (d : Bool) → d ≡ drive s → d ≡ false → q ≡ false → Nothing ≡ prefixOf s
-    prefix-none d g y n = sym (bare-none s (sym g ∙ y) (sym e ∙ n))
+    pub prefix-none : drive s ≡ false → q ≡ false → Nothing ≡ prefixOf s
+    prefix-none d n = sym (bare-none s d (sym e ∙ n))
 
-  pub prefix-disk : (d : Bool) (x : ℕ) → d ≡ drive s → d ≡ true → x ≡ capital (getD s 0 0) → Is (Disk x) ≡ prefixOf s
-  prefix-disk d x g y h = rw h (sym (drive-disk s (sym g ∙ y)))
+  pub drive-off : (d : Bool) → d ≡ drive s → d ≡ false → drive s ≡ false
+  drive-off d g y = sym g ∙ y
 
 pub share-none : (n : ℕ) → n ≡ 0 → 0 ≡ shareLen n
 share-none n e = rw e
@@ -448,7 +442,6 @@ pub ruleset prefixes = (
   device-four,
   is-device,
   is-unc,
-  prefix-disk,
   prefix-none,
   share-none,
   share-some,

@@ -118,6 +118,25 @@ abbrev pub endOfPrefix : Parsed → ℕ
 endOfPrefix Nothing = 0
 endOfPrefix (Is p) = lenOf p
 
+-- there is one
+abbrev pub hasPrefix : Parsed → Bool
+hasPrefix Nothing = false
+hasPrefix (Is p) = true
+
+-- it is a Disk
+abbrev pub isDisk : Prefix → Bool
+isDisk (Verbatim n) = false
+isDisk (VerbatimUnc n) = false
+isDisk (VerbatimDisk d) = false
+isDisk (DeviceNs n) = false
+isDisk (Unc n) = false
+isDisk (Disk d) = true
+
+-- there is one, and it is a Disk
+abbrev pub onDisk : Parsed → Bool
+onDisk Nothing = false
+onDisk (Is p) = isDisk p
+
 -- the numbers of a prefix: kinds from 1 in the order of document 01, the letter, the names
 abbrev pub driveFigures : ℕ → ℕ → Figures
 driveFigures k d = record { kind = k; letter = d; start1 = 0; len1 = 0; start2 = 0; len2 = 0 }

@@ -3,9 +3,10 @@ use octets::Seps;
 ghost use mathlib.Core.Path.{_≡_};
 ghost use Prim.Native.Nat.{ℕ, _+_, _-_, _^_, _<_, _≤_};
 ghost use mathlib.Core.List.{[], _∷_};
+ghost use mathlib.Core.Bool.{false};
 ghost use lib.ListN.{length, drop};
 ghost use Rattle.octets.specs.Class.{isSep};
-ghost use Rattle.prefixes.specs.Prefix.{begins, capital, drive, driveExact, nameOf, namesOf, isVerbatim, verbatimOf, uncOf, deviceOf, prefixOf, prefixIn, shareLen, lenOf, endOfPrefix, driveFigures, nameFigures, namesFigures, figuresOf, parsedFigures};
+ghost use Rattle.prefixes.specs.Prefix.{begins, capital, drive, driveExact, nameOf, namesOf, isVerbatim, verbatimOf, uncOf, deviceOf, prefixOf, prefixIn, shareLen, lenOf, endOfPrefix, hasPrefix, isDisk, onDisk, driveFigures, nameFigures, namesFigures, figuresOf, parsedFigures};
 ghost use Rattle.prefixes.specs.Leaves.{Past};
 
 // A name: a part of the path.
@@ -83,16 +84,12 @@ fn is_drive_exact(t: &[u8]) -> bool
     false
 }
 
-// The name at place i of s.
-fn name_of(k: Seps, s: &[u8], i: usize) -> Name
-    requires { ⌜ i ≤ length (now s) ⌝ }
-    ensures { λ r. ⌜ r ≡ nameOf (isSep k) i (drop i (now (s .entry))) ⌝ }
+// The name at the front of t, which starts at place i.
+fn name_of(k: Seps, t: &[u8], i: usize) -> Name
+    ensures { λ r. ⌜ r ≡ nameOf (isSep k) i (now (t .entry)) ⌝ }
 {
-    let e = octets::next_sep(k, s, i);
-    Name {
-        start: i,
-        len: e - i,
-    }
+    let n = octets::next_sep(k, t, 0);
+    Name { start: i, len: n }
 }
 
 // Behind the separator at place a, of n bytes, if there is one.
@@ -106,21 +103,18 @@ fn step_past(a: usize, n: usize) -> usize
     a
 }
 
-// The two names at place i of s.
-fn names_of(k: Seps, s: &[u8], i: usize) -> Names
-    requires { ⌜ i ≤ length (now s) ⌝ }
-    ensures { λ r. ⌜ r ≡ namesOf (isSep k) i (drop i (now (s .entry))) ⌝ }
+// The two names at the front of t, which starts at place i.
+fn names_of(k: Seps, t: &[u8], i: usize) -> Names
+    requires { ⌜ i ≤ 8 ⌝ }
+    ensures { λ r. ⌜ r ≡ namesOf (isSep k) i (now (t .entry)) ⌝ }
 {
-    let a = octets::next_sep(k, s, i);
-    let b = step_past(a, s.len());
-    let e = octets::next_sep(k, s, b);
+    let a = octets::next_sep(k, t, 0);
+    let b = step_past(a, t.len());
+    let e = octets::next_sep(k, t, b);
     Names {
-        server: Name {
-            start: i,
-            len: a - i,
-        },
+        server: Name { start: i, len: a },
         share: Name {
-            start: b,
+            start: i + b,
             len: e - b,
         },
     }
@@ -173,23 +167,22 @@ fn verbatim(s: &[u8]) -> Prefix
     ensures { λ r. ⌜ r ≡ verbatimOf (now (s .entry)) ⌝ }
 {
     if is_unc(s) {
-        let n = names_of(Seps::Verbatim, s, 8);
+        let n = names_of(Seps::Verbatim, &s[8..], 8);
         return Prefix::VerbatimUnc(n);
     }
     if is_drive_exact(&s[4..]) {
         let d = to_capital(s[4]);
         return Prefix::VerbatimDisk(d);
     }
-    let n = name_of(Seps::Verbatim, s, 4);
+    let n = name_of(Seps::Verbatim, &s[4..], 4);
     Prefix::Verbatim(n)
 }
 
-// Server and share behind `\\`, if neither is empty.
-fn unc(s: &[u8]) -> Parsed
-    requires { ⌜ 2 ≤ length (now s) ⌝ }
-    ensures { λ r. ⌜ r ≡ uncOf (drop 2 (now (s .entry))) ⌝ }
+// Server and share in t, the part behind `\\`, if neither is empty.
+fn unc(t: &[u8]) -> Parsed
+    ensures { λ r. ⌜ r ≡ uncOf (now (t .entry)) ⌝ }
 {
-    let n = names_of(Seps::Windows, s, 2);
+    let n = names_of(Seps::Windows, t, 2);
     let a = n.server;
     let b = n.share;
     if a.len == 0 {
@@ -220,20 +213,17 @@ fn device_or_unc(s: &[u8]) -> Parsed
     ensures { λ r. ⌜ r ≡ deviceOf (now (s .entry)) ⌝ }
 {
     if is_device(s) {
-        let n = name_of(Seps::Windows, s, 4);
+        let n = name_of(Seps::Windows, &s[4..], 4);
         return Parsed::Is(Prefix::DeviceNs(n));
     }
-    unc(s)
+    unc(&s[2..])
 }
 
-// The prefix of a Windows path. A drive, the commonest, is asked first: its letter is no separator.
+// The prefix of a Windows path, but for a drive: that, the commonest, is told by its first two bytes before this is asked.
 pub fn parse_prefix(s: &[u8]) -> Parsed
+    requires { ⌜ drive (now s) ≡ false ⌝ }
     ensures { λ r. ⌜ r ≡ prefixOf (now (s .entry)) ⌝ }
 {
-    if is_drive(s) {
-        let d = to_capital(s[0]);
-        return Parsed::Is(Prefix::Disk(d));
-    }
     if two_seps(s) {
         if is_verbatim(s) {
             let p = verbatim(s);
@@ -244,8 +234,9 @@ pub fn parse_prefix(s: &[u8]) -> Parsed
     Parsed::Nothing
 }
 
-// The prefix of a path read with k, the set of separators of a mode: Unix mode has none.
+// The same of a path read with k, the set of separators of a mode: Unix mode has none.
 pub fn prefix_in(k: Seps, s: &[u8]) -> Parsed
+    requires { ⌜ drive (now s) ≡ false ⌝ }
     ensures { λ r. ⌜ r ≡ prefixIn k (now (s .entry)) ⌝ }
 {
     match k {
@@ -296,6 +287,39 @@ pub fn end_of(p: Parsed, s: &[u8]) -> usize
     match p {
         Parsed::Nothing => 0,
         Parsed::Is(q) => prefix_len(q),
+    }
+}
+
+// Whether a path has a prefix.
+pub fn has_prefix(p: Parsed) -> bool
+    ensures { λ r. ⌜ r ≡ hasPrefix p ⌝ }
+{
+    match p {
+        Parsed::Nothing => false,
+        Parsed::Is(_) => true,
+    }
+}
+
+fn is_disk(p: Prefix) -> bool
+    ensures { λ r. ⌜ r ≡ isDisk p ⌝ }
+{
+    match p {
+        Prefix::Verbatim(_) => false,
+        Prefix::VerbatimUnc(_) => false,
+        Prefix::VerbatimDisk(_) => false,
+        Prefix::DeviceNs(_) => false,
+        Prefix::Unc(_) => false,
+        Prefix::Disk(_) => true,
+    }
+}
+
+// Whether it has one that is a Disk.
+pub fn on_disk(p: Parsed) -> bool
+    ensures { λ r. ⌜ r ≡ onDisk p ⌝ }
+{
+    match p {
+        Parsed::Nothing => false,
+        Parsed::Is(q) => is_disk(q),
     }
 }
 

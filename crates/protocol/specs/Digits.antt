@@ -41,17 +41,17 @@ unfoldable pub readAt : ℕ → List ℕ → ℕ → Number
 readAt v w i = readFrom v (drop i w)
 
 -- one to twenty digits
-unfoldable pub numberOf : List ℕ → Number
-numberOf w = cond (eqb (length w) 0) Bad (cond (leb (length w) 20) (readFrom 0 w) Bad)
+unfoldable pub numberIn : List ℕ → Number
+numberIn w = cond (eqb (length w) 0) Bad (cond (leb (length w) 20) (readFrom 0 w) Bad)
 
 -- bytes, or a word that stands for none
 pub data Bytes : Type 0 where
   none : Bytes
   some : List ℕ → Bytes
 
-abbrev pub behind : List ℕ → Bytes → Bytes
-behind l none = none
-behind l (some m) = some (l ++ m)
+abbrev pub prepended : List ℕ → Bytes → Bytes
+prepended l none = none
+prepended l (some m) = some (l ++ m)
 
 -- two hex digits a byte, the high one first
 unfoldable pub pairsOf : List ℕ → Bytes
@@ -59,7 +59,7 @@ pairsOf [] = some []
 pairsOf (x ∷ []) = none
 pairsOf (x ∷ y ∷ w) =
     cond (leb (digitOf x) 15)
-    (cond (leb (digitOf y) 15) (behind ((digitOf x * 16 + digitOf y) ∷ []) (pairsOf w)) none)
+    (cond (leb (digitOf y) 15) (prepended ((digitOf x * 16 + digitOf y) ∷ []) (pairsOf w)) none)
     none
 
 -- the same from place i on
@@ -67,8 +67,8 @@ unfoldable pub pairsAt : List ℕ → ℕ → Bytes
 pairsAt w i = pairsOf (drop i w)
 
 -- `-` is no byte; an empty word is refused, and so are more than 8,192 bytes
-unfoldable pub bytesOf : List ℕ → Bytes
-bytesOf w =
+unfoldable pub bytesIn : List ℕ → Bytes
+bytesIn w =
     cond (equal w (45 ∷ []))
     (some [])
     (cond (eqb (length w) 0) none (cond (leb (length w) 16384) (pairsOf w) none))

@@ -14,7 +14,6 @@ use Rattle.protocol.specs.declared.digits.Number.{Number}
 use Rattle.protocol.specs.declared.digits.Number.the-variants.{Bad, Is}
 use Rattle.protocol.specs.declared.digits.Size.{Size}
 use Rattle.protocol.specs.declared.digits.Size.the-variants.{Bad as Odd, Is as Of}
-use Rattle.protocol.specs.declared.verbs.Verb.{Verb}
 use Rattle.protocol.specs.declared.requests.Request.{Request}
 use Rattle.protocol.specs.declared.requests.Ended.{Ended}
 use Rattle.protocol.specs.declared.requests.Word.{Word}
@@ -24,7 +23,7 @@ use Rattle.protocol.specs.declared.requests.Line.the-variants.{Good}
 use Rattle.protocol.specs.Requests.{Fit, Held, Sound}
 use Rattle.protocol.specs.Words.{equal, equalFrom}
 use Rattle.protocol.specs.Verbs.{named}
-use Rattle.protocol.specs.Digits.{digitOf, Digit, decimal, valueFrom, readFrom, readAt, numberOf, Bytes, none, some, behind, pairsOf, pairsAt, bytesOf, Decoded}
+use Rattle.protocol.specs.Digits.{digitOf, Digit, decimal, valueFrom, readFrom, readAt, numberIn, Bytes, none, some, prepended, pairsOf, pairsAt, bytesIn, Decoded}
 
 -- a proof for each value of a Bool, with the equation
 split : {A : Type 0} (b : Bool) → (b ≡ true → A) → (b ≡ false → A) → A
@@ -62,15 +61,15 @@ module _ (a b : List ℕ) where
       unfolding equalFrom equal
       same-on d = e ∙ rw (drop-cons a i 0 h, drop-cons b i 0 (omega arith), add-one) (simp (eq-eqb (getD a i 0) (getD b i 0) d))
 
--- the verbs: the word is this one, or the answer is that of the others
-module _ (w x : List ℕ) (v others : Verb) (t : Bool) (e : t ≡ equal w x) where
-  pub verb-hit : t ≡ true → v ≡ named w x v others
+-- the word is this one, or the answer is that of the others
+module _ {A : Type 0} (w x : List ℕ) (v others : A) (t : Bool) (e : t ≡ equal w x) where
+  pub word-hit : t ≡ true → v ≡ named w x v others
   unfolding named
-  verb-hit y = rw (← e, y)
+  word-hit y = rw (← e, y)
 
-  pub verb-miss : (u : Verb) → t ≡ false → u ≡ others → u ≡ named w x v others
+  pub word-miss : (u : A) → t ≡ false → u ≡ others → u ≡ named w x v others
   unfolding named
-  verb-miss u n r = rw (← e, n) r
+  word-miss u n r = rw (← e, n) r
 
 -- `digit`
 module _ (b : ℕ) where
@@ -121,25 +120,25 @@ too-large v w h =
     split (decimal w) (λ e. rw (e, le-ltb (valueFrom v w) (2 ^ 64) (omega arith))) (λ e. rw e)
 
 module _ (w : List ℕ) where
-  pub number-none : length w ≡ 0 → Bad ≡ numberOf w
-  unfolding numberOf
+  pub number-none : length w ≡ 0 → Bad ≡ numberIn w
+  unfolding numberIn
   number-none h = simp (eq-eqb (length w) 0 h)
 
-  pub number-long : 20 < length w → Bad ≡ numberOf w
-  unfolding numberOf
+  pub number-long : 20 < length w → Bad ≡ numberIn w
+  unfolding numberIn
   number-long h = simp (ne-eqb (length w) 0 (λ e. omega arith), lt-leb (length w) 20 h)
 
-  pub number-start : (length w ≡ 0 → ⊥) → length w ≤ 20 → numberOf w ≡ readAt 0 w 0
-  unfolding numberOf readAt
+  pub number-start : (length w ≡ 0 → ⊥) → length w ≤ 20 → numberIn w ≡ readAt 0 w 0
+  unfolding numberIn readAt
   number-start h l = simp (ne-eqb (length w) 0 h, le-leb (length w) 20 l)
 
-  module _ (v i : ℕ) (e : numberOf w ≡ readAt v w i) where
-    pub number-done : length w ≤ i → v < 2 ^ 64 → Is v ≡ numberOf w
+  module _ (v i : ℕ) (e : numberIn w ≡ readAt v w i) where
+    pub number-done : length w ≤ i → v < 2 ^ 64 → Is v ≡ numberIn w
     unfolding readAt readFrom decimal valueFrom
     number-done h l = sym (e ∙ rw (drop-of-length-le w h) (simp (lt-ltb v (2 ^ 64) l)))
 
     module _ (h : i < length w) (d : ℕ) (t : Digit (getD w i 0) d) where
-      pub number-other : 9 < d → Bad ≡ numberOf w
+      pub number-other : 9 < d → Bad ≡ numberIn w
       unfolding readAt readFrom decimal
       number-other g = sym (e ∙ rw (drop-cons w i 0 h, ← t .is) (simp (lt-leb d 9 g)))
 
@@ -147,30 +146,30 @@ module _ (w : List ℕ) where
       unfolding readAt readFrom decimal
       next g = rw (drop-cons w i 0 h, add-one, value-on v (getD w i 0) (drop (suc i) w), ← t .is) (simp (le-leb d 9 g))
 
-      pub number-more : d ≤ 9 → numberOf w ≡ readAt (v * 10 + d) w (i + 1)
+      pub number-more : d ≤ 9 → numberIn w ≡ readAt (v * 10 + d) w (i + 1)
       unfolding readAt
       number-more g = e ∙ next g
 
-      pub number-high : d ≤ 9 → 1844674407370955161 < v → Bad ≡ numberOf w
+      pub number-high : d ≤ 9 → 1844674407370955161 < v → Bad ≡ numberIn w
       number-high g l = sym (e ∙ next g ∙ too-large (v * 10 + d) (drop (i + 1) w) (omega arith))
 
-      pub number-over : d ≤ 9 → v ≤ 1844674407370955161 → 18446744073709551615 - v * 10 < d → Bad ≡ numberOf w
+      pub number-over : d ≤ 9 → v ≤ 1844674407370955161 → 18446744073709551615 - v * 10 < d → Bad ≡ numberIn w
       number-over g m l = sym (e ∙ next g ∙ too-large (v * 10 + d) (drop (i + 1) w) (omega arith))
 
 -- `pairs`
-behind-behind : (l m : List ℕ) (o : Bytes) → behind l (behind m o) ≡ behind (l ++ m) o
-behind-behind l m none = refl
-behind-behind l m (some n) = ap some (sym (append-assoc l m n))
+prepended-twice : (l m : List ℕ) (o : Bytes) → prepended l (prepended m o) ≡ prepended (l ++ m) o
+prepended-twice l m none = refl
+prepended-twice l m (some n) = ap some (sym (append-assoc l m n))
 
 module _ (w : List ℕ) where
-  pub pairs-start : (out : List ℕ) → pairsOf w ≡ behind (take 0 out) (pairsAt w 0)
+  pub pairs-start : (out : List ℕ) → pairsOf w ≡ prepended (take 0 out) (pairsAt w 0)
   unfolding pairsAt
   pairs-start out = split-bytes (pairsOf w) where
-    split-bytes : (o : Bytes) → o ≡ behind [] o
+    split-bytes : (o : Bytes) → o ≡ prepended [] o
     split-bytes none = refl
     split-bytes (some l) = refl
 
-  module _ (out : List ℕ) (i k : ℕ) (e : pairsOf w ≡ behind (take k out) (pairsAt w i)) where
+  module _ (out : List ℕ) (i k : ℕ) (e : pairsOf w ≡ prepended (take k out) (pairsAt w i)) where
     pub pairs-odd : length w ≤ i + 1 → i < length w → pairsOf w ≡ none
     unfolding pairsAt pairsOf
     pairs-odd g h = e ∙ rw (drop-cons w i 0 h, drop-of-length-le w {i = suc i} (omega arith))
@@ -197,34 +196,34 @@ module _ (w : List ℕ) where
           (out₀ : List ℕ)
           → x ≤ 15 → y ≤ 15 → i ≡ k + k → length w ≤ 16384 → 8192 ≤ length out₀ → length out ≡ length out₀
           → pairsOf w
-          ≡ behind (take (k + 1) (set out k (x * 16 + y))) (pairsAt w (i + 2))
+          ≡ prepended (take (k + 1) (set out k (x * 16 + y))) (pairsAt w (i + 2))
       unfolding pairsAt pairsOf
       pairs-more out₀ g l d n m r =
           e
           ∙ rw (opened, ← s .is, ← t .is)
-          (simp (le-leb x 15 g, le-leb y 15 l) (rw (add-one k, take-suc-set out k (x * 16 + y) (omega arith)) (behind-behind (take k out) ((x * 16 + y) ∷ []) (pairsOf (drop (i + 2) w)))))
+          (simp (le-leb x 15 g, le-leb y 15 l) (rw (add-one k, take-suc-set out k (x * 16 + y) (omega arith)) (prepended-twice (take k out) ((x * 16 + y) ∷ []) (pairsOf (drop (i + 2) w)))))
 
 -- `bytes`
 module _ (w : List ℕ) (t : Bool) (e : t ≡ equal w (45 ∷ [])) where
-  pub bytes-dash : t ≡ true → bytesOf w ≡ some []
-  unfolding bytesOf
+  pub bytes-dash : t ≡ true → bytesIn w ≡ some []
+  unfolding bytesIn
   bytes-dash y = rw (← e, y)
 
   module _ (n : t ≡ false) where
-    pub bytes-empty : length w ≡ 0 → bytesOf w ≡ none
-    unfolding bytesOf
+    pub bytes-empty : length w ≡ 0 → bytesIn w ≡ none
+    unfolding bytesIn
     bytes-empty h = rw (← e, n) (simp (eq-eqb (length w) 0 h))
 
     module _ (h : length w ≡ 0 → ⊥) where
-      pub bytes-long : 16384 < length w → bytesOf w ≡ none
-      unfolding bytesOf
+      pub bytes-long : 16384 < length w → bytesIn w ≡ none
+      unfolding bytesIn
       bytes-long l = rw (← e, n) (simp (ne-eqb (length w) 0 h, lt-leb (length w) 16384 l))
 
-      bytes-are : length w ≤ 16384 → bytesOf w ≡ pairsOf w
-      unfolding bytesOf
+      bytes-are : length w ≤ 16384 → bytesIn w ≡ pairsOf w
+      unfolding bytesIn
       bytes-are l = rw (← e, n) (simp (ne-eqb (length w) 0 h, le-leb (length w) 16384 l))
 
-      pub bytes-pairs : (r : Size) (out : List ℕ) → length w ≤ 16384 → Decoded (pairsOf w) r out → Decoded (bytesOf w) r out
+      pub bytes-pairs : (r : Size) (out : List ℕ) → length w ≤ 16384 → Decoded (pairsOf w) r out → Decoded (bytesIn w) r out
       bytes-pairs r out l d = rw (bytes-are l) d
 
 -- what is known of a word and of a line, told of what it holds
@@ -236,7 +235,7 @@ sound l q e h = rw e at h
 
 pub ruleset words = (same-length, same-start, same-done, same-off, same-on)
 
-pub ruleset verbs = (verb-hit, verb-miss)
+pub ruleset verbs = (word-hit, word-miss)
 
 pub ruleset numbers = (number-none, number-long, number-start, number-done, number-other, number-more, number-high, number-over)
 

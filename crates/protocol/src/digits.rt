@@ -2,7 +2,7 @@
 ghost use mathlib.Core.Path.{_≡_};
 ghost use Prim.Native.Nat.{_≤_};
 ghost use lib.ListN.{length};
-ghost use Rattle.protocol.specs.Digits.{Digit, numberOf, bytesOf, pairsOf, Decoded};
+ghost use Rattle.protocol.specs.Digits.{Digit, numberIn, bytesIn, pairsOf, Decoded};
 
 // A number, or none.
 pub enum Number {
@@ -37,7 +37,7 @@ pub fn digit(b: u8) -> usize
 
 // The number that w writes in decimal.
 pub fn value_of(w: &[u8]) -> Number
-    ensures { λ r. ⌜ r ≡ numberOf (now (w .entry)) ⌝ }
+    ensures { λ r. ⌜ r ≡ numberIn (now (w .entry)) ⌝ }
 {
     if w.len() == 0 {
         return Number::Bad;
@@ -95,7 +95,7 @@ fn pairs(w: &[u8], out: &mut [u8]) -> Size
 // The bytes that w stands for, into out: `-` for none, else a pair of digits each.
 pub fn bytes(w: &[u8], out: &mut [u8]) -> Size
     requires { ⌜ 8192 ≤ length (now out) ⌝ }
-    ensures { λ r. ⌜ Decoded (bytesOf (now (w .entry))) r (now (out .exit)) ⌝ }
+    ensures { λ r. ⌜ Decoded (bytesIn (now (w .entry))) r (now (out .exit)) ⌝ }
 {
     if crate::words::same(w, b"-") {
         return Size::Is(0);

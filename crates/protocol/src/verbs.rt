@@ -1,7 +1,7 @@
 // The first word of a request: which request it is, and how many words of each kind follow it.
 use crate::words::same;
 ghost use mathlib.Core.Path.{_≡_};
-ghost use Rattle.protocol.specs.Verbs.{verbOf, viewOf, stepOf, pairOf, writeOf};
+ghost use Rattle.protocol.specs.Verbs.{verbOf, viewVerbOf, stepVerbOf, pairVerbOf, writeVerbOf};
 
 pub enum Verb {
     Unknown,
@@ -46,7 +46,7 @@ pub fn paths_of(v: Verb) -> usize {
 }
 
 fn writing(w: &[u8]) -> Verb
-    ensures { λ r. ⌜ r ≡ writeOf (now (w .entry)) ⌝ }
+    ensures { λ r. ⌜ r ≡ writeVerbOf (now (w .entry)) ⌝ }
 {
     if same(w, b"join") {
         return Verb::Join;
@@ -64,7 +64,7 @@ fn writing(w: &[u8]) -> Verb
 }
 
 fn pairing(w: &[u8]) -> Verb
-    ensures { λ r. ⌜ r ≡ pairOf (now (w .entry)) ⌝ }
+    ensures { λ r. ⌜ r ≡ pairVerbOf (now (w .entry)) ⌝ }
 {
     if same(w, b"compare") {
         return Verb::Compare;
@@ -82,7 +82,7 @@ fn pairing(w: &[u8]) -> Verb
 }
 
 fn stepping(w: &[u8]) -> Verb
-    ensures { λ r. ⌜ r ≡ stepOf (now (w .entry)) ⌝ }
+    ensures { λ r. ⌜ r ≡ stepVerbOf (now (w .entry)) ⌝ }
 {
     if same(w, b"front") {
         return Verb::Front;
@@ -100,7 +100,7 @@ fn stepping(w: &[u8]) -> Verb
 }
 
 fn viewing(w: &[u8]) -> Verb
-    ensures { λ r. ⌜ r ≡ viewOf (now (w .entry)) ⌝ }
+    ensures { λ r. ⌜ r ≡ viewVerbOf (now (w .entry)) ⌝ }
 {
     if same(w, b"stem") {
         return Verb::Stem;

@@ -28,18 +28,18 @@ use Rattle.parts.specs.declared.Item.the-variants.{Missing, Here}
 use Rattle.parts.specs.declared.Part.{Part}
 use Rattle.parts.specs.declared.Piece.{Piece}
 use Rattle.parts.specs.declared.Piece.the-variants.{Nothing, Found}
-use Rattle.parts.specs.Elements.{nthBackOf}
+use Rattle.parts.specs.Elements.{nthBackOf, isHere}
 use Rattle.parts.specs.Steps.{lift, raised}
 use Rattle.components.specs.List.{listOf}
 use Rattle.joins.specs.Join.{joined}
 use Rattle.views.specs.Views.{lastName, restBack, onItem, ofName, fileStemOf}
 use Rattle.views.specs.Leaves.{NameAt, beforeName, BaseAt, StemAt}
 use Rattle.views.specs.Laws.{name-ends}
-use Rattle.setters.specs.Set.{isNamed, baseOf, holds, pointed, onView, extended}
+use Rattle.setters.specs.Set.{baseOf, holds, pointed, onView, extended}
 use Rattle.setters.specs.Leaves.{holdsFrom}
 
 -- `set_file_name_in`
-base-is : (p : List ℕ) (r a : ℕ) (i : Item) → r ≡ beforeName i a (length p) → take r p ≡ cond (isNamed i) (take a p) p
+base-is : (p : List ℕ) (r a : ℕ) (i : Item) → r ≡ beforeName i a (length p) → take r p ≡ cond (isHere i) (take a p) p
 base-is p r a Missing e = rw e (take-length p)
 base-is p r a (Here x) e = rw e
 

@@ -8,17 +8,12 @@ use Rattle.octets.specs.Class.{isSep}
 use Rattle.octets.specs.declared.Seps.{Seps}
 use Rattle.answers.specs.declared.View.{View}
 use Rattle.answers.specs.Outcome.{Outcome, refuse, result, plain}
-use Rattle.parts.specs.declared.Item.{Item}
-use Rattle.parts.specs.declared.Item.the-variants.{Missing, Here}
+use Rattle.parts.specs.Elements.{isHere}
 use Rattle.views.specs.Views.{restBack, lastName, fileStemOf}
 
 -- "Set file name: drop the file name if there is one (take the parent), then join.": what is joined to
-abbrev pub isNamed : Item → Bool
-isNamed Missing = false
-isNamed (Here p) = true
-
 unfoldable pub baseOf : Seps → List ℕ → List ℕ
-baseOf k p = cond (isNamed (lastName k p)) (take (restBack k p 1 .len) p) p
+baseOf k p = cond (isHere (lastName k p)) (take (restBack k p 1 .len) p) p
 
 -- "a new extension holds a separator of the mode"
 unfoldable pub holds : (ℕ → Bool) → List ℕ → Bool

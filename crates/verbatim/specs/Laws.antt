@@ -25,8 +25,8 @@ use Rattle.parts.specs.Steps.{lift, within, LastAt}
 use Rattle.parts.specs.Laws.{few, last-none, last-found, Bodily, Goods, from-good}
 use Rattle.verbatim.specs.declared.Sift.{Sift}
 use Rattle.verbatim.specs.declared.Sift.the-variants.{Keep, Drop}
-use Rattle.verbatim.specs.declared.Span.{Span}
-use Rattle.verbatim.specs.Verbatim.{Value, valueOf, valuesOf, unlessNormal, popped, added, laid}
+use Rattle.verbatim.specs.declared.Stretch.{Stretch}
+use Rattle.verbatim.specs.Verbatim.{Spelling, spellingOf, spellingsOf, unlessNormal, popped, added, laid}
 use Rattle.verbatim.specs.Leaves.{mendOf, siftOf, leftBy, keptBy, owed, kept, flat, bulk, owedAt, textAt, Reading, Tallied, Counting}
 
 -- `mend`, `sift_kind`
@@ -58,29 +58,29 @@ pub ruleset sifts = (mend-unix, mend-windows, sift-dot, sift-up, sift-zero, sift
 
 -- ---- lists of values
 
-pub values-append : (s : List ℕ) (l m : List Element) → valuesOf s (l ++ m) ≡ valuesOf s l ++ valuesOf s m
-unfolding valuesOf
-values-append s [] m = refl
-values-append s (x ∷ l) m = ap (λ (n : List Value). valueOf s x ∷ n) (values-append s l m)
+pub spellings-append : (s : List ℕ) (l m : List Element) → spellingsOf s (l ++ m) ≡ spellingsOf s l ++ spellingsOf s m
+unfolding spellingsOf
+spellings-append s [] m = refl
+spellings-append s (x ∷ l) m = ap (λ (n : List Spelling). spellingOf s x ∷ n) (spellings-append s l m)
 
-pub flat-append : (l m : List Value) → flat (l ++ m) ≡ flat l ++ flat m
+pub flat-append : (l m : List Spelling) → flat (l ++ m) ≡ flat l ++ flat m
 unfolding flat
 flat-append [] m = refl
 flat-append (v ∷ l) m = rw (flat-append l m, append-assoc)
 
-popped-last : (l : List Value) (v : Value) → popped (l ++ (v ∷ [])) ≡ l ++ unlessNormal (v .component) v
+popped-last : (l : List Spelling) (v : Spelling) → popped (l ++ (v ∷ [])) ≡ l ++ unlessNormal (v .component) v
 unfolding popped
 popped-last [] v = refl
 popped-last (u ∷ []) v = refl
-popped-last (u ∷ w ∷ l) v = ap (λ (m : List Value). u ∷ m) (popped-last (w ∷ l) v)
+popped-last (u ∷ w ∷ l) v = ap (λ (m : List Spelling). u ∷ m) (popped-last (w ∷ l) v)
 
 -- c names off the end, as far as there are names
-abbrev pub pops : ℕ → List Value → List Value
+abbrev pub pops : ℕ → List Spelling → List Spelling
 pops zero l = l
 pops (suc c) l = pops c (popped l)
 
 -- a last component that is no name stays, with all before it
-pub pops-stay : (c : ℕ) (l : List Value) (v : Value) → unlessNormal (v .component) v ≡ v ∷ [] → pops c (l ++ (v ∷ [])) ≡ l ++ (v ∷ [])
+pub pops-stay : (c : ℕ) (l : List Spelling) (v : Spelling) → unlessNormal (v .component) v ≡ v ∷ [] → pops c (l ++ (v ∷ [])) ≡ l ++ (v ∷ [])
 pops-stay zero l v e = refl
 pops-stay (suc c) l v e = rw (popped-last l v, e) (pops-stay c l v e)
 
@@ -93,7 +93,7 @@ inBody ParentDir = true
 inBody Normal = true
 
 -- a component of q laid on, and then c names off: what is off before it, and whether it stays
-laid-one : (l : List Value) (v : Value) (c : ℕ) (m : Component) → v .component ≡ m → inBody m ≡ true → pops c (added m v l) ≡ pops (leftBy (siftOf Windows m c)) l ++ keptBy (siftOf Windows m c) v []
+laid-one : (l : List Spelling) (v : Spelling) (c : ℕ) (m : Component) → v .component ≡ m → inBody m ≡ true → pops c (added m v l) ≡ pops (leftBy (siftOf Windows m c)) l ++ keptBy (siftOf Windows m c) v []
 laid-one l v c (Prefixed p) e h = absurd (false≢true h)
 laid-one l v c RootDir e h = absurd (false≢true h)
 laid-one l v c CurDir e h = rw append-nil
@@ -102,7 +102,7 @@ laid-one l v zero Normal e h = refl
 laid-one l v (suc c) Normal e h = rw (popped-last l v, e) (simp append-nil)
 
 -- a component of p, and then c names off
-own-one : (l : List Value) (v : Value) (c : ℕ) (m : Component) → v .component ≡ m → inBody m ≡ true → pops c (l ++ (v ∷ [])) ≡ pops (leftBy (siftOf OnlyBack m c)) l ++ keptBy (siftOf OnlyBack m c) v []
+own-one : (l : List Spelling) (v : Spelling) (c : ℕ) (m : Component) → v .component ≡ m → inBody m ≡ true → pops c (l ++ (v ∷ [])) ≡ pops (leftBy (siftOf OnlyBack m c)) l ++ keptBy (siftOf OnlyBack m c) v []
 own-one l v c (Prefixed p) e h = absurd (false≢true h)
 own-one l v c RootDir e h = absurd (false≢true h)
 own-one l v c CurDir e h = pops-stay c l v (rw e)
@@ -110,7 +110,7 @@ own-one l v c ParentDir e h = pops-stay c l v (rw e)
 own-one l v zero Normal e h = refl
 own-one l v (suc c) Normal e h = rw (popped-last l v, e) (simp append-nil)
 
-unfoldable pub PlainV : List Value → Type 0
+unfoldable pub PlainV : List Spelling → Type 0
 PlainV [] = Unit
 PlainV (v ∷ l) = (inBody (v .component) ≡ true) × PlainV l
 
@@ -121,43 +121,43 @@ bodily-in v CurDir h = refl
 bodily-in v ParentDir h = refl
 bodily-in v Normal h = refl
 
-goods-plain : (sep : ℕ → Bool) (v : Bool) (s t : List ℕ) (l : List Element) → Goods sep v t l → PlainV (valuesOf s l)
-unfolding Goods PlainV valuesOf
+goods-plain : (sep : ℕ → Bool) (v : Bool) (s t : List ℕ) (l : List Element) → Goods sep v t l → PlainV (spellingsOf s l)
+unfolding Goods PlainV spellingsOf
 goods-plain sep v s t [] u = tt
 goods-plain sep v s t (x ∷ l) u = (bodily-in v (x .component) (u .0 .bodily), goods-plain sep v s t l (u .1))
 
-pub values-plain : (k : Seps) (s : List ℕ) (lo hi : ℕ) → PlainV (valuesOf s (within (isSep k) (dots k) s lo hi))
+pub spellings-plain : (k : Seps) (s : List ℕ) (lo hi : ℕ) → PlainV (spellingsOf s (within (isSep k) (dots k) s lo hi))
 unfolding within
-values-plain k s lo hi = goods-plain (isSep k) (dots k) s (take hi s) _ (from-good (isSep k) (dots k) (take hi s) lo)
+spellings-plain k s lo hi = goods-plain (isSep k) (dots k) s (take hi s) _ (from-good (isSep k) (dots k) (take hi s) lo)
 
-pub append-plain : (l m : List Value) → PlainV l → PlainV m → PlainV (l ++ m)
+pub append-plain : (l m : List Spelling) → PlainV l → PlainV m → PlainV (l ++ m)
 unfolding PlainV
 append-plain [] m u w = w
 append-plain (v ∷ l) m u w = (u .0, append-plain l m (u .1) w)
 
-kept-by : (o : Sift) (v : Value) (l : List Value) → keptBy o v [] ++ l ≡ keptBy o v l
+kept-by : (o : Sift) (v : Spelling) (l : List Spelling) → keptBy o v [] ++ l ≡ keptBy o v l
 kept-by Keep v l = refl
 kept-by (Drop d) v l = refl
 
-by-plain : (o : Sift) (v : Value) (l : List Value) → inBody (v .component) ≡ true → PlainV l → PlainV (keptBy o v l)
+by-plain : (o : Sift) (v : Spelling) (l : List Spelling) → inBody (v .component) ≡ true → PlainV l → PlainV (keptBy o v l)
 unfolding PlainV
 by-plain Keep v l h u = (h, u)
 by-plain (Drop d) v l h u = u
 
-pub kept-plain : (k : Seps) (c : ℕ) (l : List Value) → PlainV l → PlainV (kept k c l)
+pub kept-plain : (k : Seps) (c : ℕ) (l : List Spelling) → PlainV l → PlainV (kept k c l)
 unfolding PlainV kept
 kept-plain k c [] u = tt
 kept-plain k c (v ∷ l) u = by-plain (siftOf k (v .component) (owed k c l)) v (kept k c l) (u .0) (kept-plain k c l (u .1))
 
 -- q's list laid on, and then c names off; and p's own list
-pub laid-kept : (l m : List Value) (c : ℕ) → PlainV m → pops c (laid l m) ≡ pops (owed Windows c m) l ++ kept Windows c m
+pub laid-kept : (l m : List Spelling) (c : ℕ) → PlainV m → pops c (laid l m) ≡ pops (owed Windows c m) l ++ kept Windows c m
 unfolding PlainV laid owed kept
 laid-kept l [] c u = rw append-nil
 laid-kept l (v ∷ m) c u =
     laid-kept (added (v .component) v l) m c (u .1)
     ∙ rw (laid-one l v (owed Windows c m) (v .component) refl (u .0), append-assoc, kept-by)
 
-pub own-kept : (l m : List Value) (c : ℕ) → PlainV m → pops c (l ++ m) ≡ pops (owed OnlyBack c m) l ++ kept OnlyBack c m
+pub own-kept : (l m : List Spelling) (c : ℕ) → PlainV m → pops c (l ++ m) ≡ pops (owed OnlyBack c m) l ++ kept OnlyBack c m
 unfolding PlainV owed kept
 own-kept l [] c u = simp append-nil
 own-kept l (v ∷ m) c u =
@@ -166,16 +166,16 @@ own-kept l (v ∷ m) c u =
     ∙ rw (own-one l v (owed OnlyBack c m) (v .component) refl (u .0), append-assoc, kept-by)
 
 -- the same from the back, as the loops read it
-owed-last : (k : Seps) (c : ℕ) (l : List Value) (v : Value) → owed k c (l ++ (v ∷ [])) ≡ owed k (leftBy (siftOf k (v .component) c)) l
+owed-last : (k : Seps) (c : ℕ) (l : List Spelling) (v : Spelling) → owed k c (l ++ (v ∷ [])) ≡ owed k (leftBy (siftOf k (v .component) c)) l
 unfolding owed
 owed-last k c [] v = refl
 owed-last k c (u ∷ l) v = rw (owed-last k c l v)
 
-by-append : (o : Sift) (v : Value) (l m : List Value) → keptBy o v (l ++ m) ≡ keptBy o v l ++ m
+by-append : (o : Sift) (v : Spelling) (l m : List Spelling) → keptBy o v (l ++ m) ≡ keptBy o v l ++ m
 by-append Keep v l m = refl
 by-append (Drop d) v l m = refl
 
-kept-last : (k : Seps) (c : ℕ) (l : List Value) (v : Value) → kept k c (l ++ (v ∷ [])) ≡ kept k (leftBy (siftOf k (v .component) c)) l ++ keptBy (siftOf k (v .component) c) v []
+kept-last : (k : Seps) (c : ℕ) (l : List Spelling) (v : Spelling) → kept k c (l ++ (v ∷ [])) ≡ kept k (leftBy (siftOf k (v .component) c)) l ++ keptBy (siftOf k (v .component) c) v []
 unfolding owed kept
 kept-last k c [] v = refl
 kept-last k c (u ∷ l) v = rw (owed-last k c l v, kept-last k c l v, by-append)
@@ -196,11 +196,11 @@ sift-less k Normal (suc c) = omega arith
 
 module _ (k : Seps) (s : List ℕ) (lo e c : ℕ) (y : Piece) (f : LastAt (isSep k) (dots k) s lo e y) where
   pub text-none : y ≡ None → textAt k s lo e c ≡ []
-  unfolding textAt valuesOf kept flat
+  unfolding textAt spellingsOf kept flat
   text-none g = rw (last-none f g)
 
   owed-none : y ≡ None → owedAt k s lo e c ≡ c
-  unfolding owedAt valuesOf owed
+  unfolding owedAt spellingsOf owed
   owed-none g = rw (last-none f g)
 
   module _ (x : Part) (g : y ≡ Found x) where
@@ -208,15 +208,15 @@ module _ (k : Seps) (s : List ℕ) (lo e c : ℕ) (y : Piece) (f : LastAt (isSep
     unfolding bulk
     bulk-step = ap length (last-found f g .is) ∙ length-append (within (isSep k) (dots k) s lo (x .start)) (lift x ∷ [])
 
-    values-step : valuesOf s (within (isSep k) (dots k) s lo e) ≡ valuesOf s (within (isSep k) (dots k) s lo (x .start)) ++ (valueOf s (lift x) ∷ [])
-    unfolding valuesOf
-    values-step = rw (last-found f g .is, values-append s (within (isSep k) (dots k) s lo (x .start)) (lift x ∷ []))
+    values-step : spellingsOf s (within (isSep k) (dots k) s lo e) ≡ spellingsOf s (within (isSep k) (dots k) s lo (x .start)) ++ (spellingOf s (lift x) ∷ [])
+    unfolding spellingsOf
+    values-step = rw (last-found f g .is, spellings-append s (within (isSep k) (dots k) s lo (x .start)) (lift x ∷ []))
 
     pub piece : length (take (x .len) (drop (x .start) s)) ≡ x .len
     piece = let z = last-found f g in length-take-le (x .len) (drop (x .start) s) (omega (arith, length-drop (x .start) s))
 
     module _ (o : Sift) (h : o ≡ siftOf k (componentOf (x .kind)) c) where
-      text-step : textAt k s lo e c ≡ textAt k s lo (x .start) (leftBy o) ++ flat (keptBy o (valueOf s (lift x)) [])
+      text-step : textAt k s lo e c ≡ textAt k s lo (x .start) (leftBy o) ++ flat (keptBy o (spellingOf s (lift x)) [])
       unfolding textAt
       text-step = rw (h, values-step, kept-last, flat-append)
 
@@ -272,7 +272,7 @@ pub ruleset reads = (read-start, read-inside, read-left, read-in, read-keep, rea
 pub count-start : (k : Seps) (s : List ℕ) (lo hi left : ℕ) → hi ≤ length s → Counting k s lo hi left hi left 0
 count-start k s lo hi left h = record { is = omega arith; owes = refl; few = omega (arith, within-few k s lo hi h) }
 
-pub count-end : (k : Seps) (s : List ℕ) (t : Span) (e c n : ℕ) (y : Piece) → Reading k s (t .lo) (t .left) e c → Counting k s (t .lo) (t .hi) (t .left) e c n → LastAt (isSep k) (dots k) s (t .lo) e y → y ≡ None → Tallied k s t (record { len = n; left = c })
+pub count-end : (k : Seps) (s : List ℕ) (t : Stretch) (e c n : ℕ) (y : Piece) → Reading k s (t .lo) (t .left) e c → Counting k s (t .lo) (t .hi) (t .left) e c n → LastAt (isSep k) (dots k) s (t .lo) e y → y ≡ None → Tallied k s t (record { len = n; left = c })
 count-end k s t e c n y i j f g =
     record {
       len = omega (arith, j .is, ap length (text-none k s (t .lo) e c y f g));

@@ -16,11 +16,11 @@ use Rattle.components.specs.declared.Dir.{Dir}
 use Rattle.components.specs.declared.Dir.the-variants.{Bare, Root, Implied, Dot}
 use Rattle.verbatim.specs.declared.Sift.{Sift}
 use Rattle.verbatim.specs.declared.Sift.the-variants.{Keep, Drop}
-use Rattle.verbatim.specs.declared.Span.{Span}
+use Rattle.verbatim.specs.declared.Stretch.{Stretch}
 use Rattle.verbatim.specs.declared.Tally.{Tally}
 use Rattle.verbatim.specs.declared.Share.{Share}
 use Rattle.verbatim.specs.declared.Plan.{Plan}
-use Rattle.verbatim.specs.Verbatim.{Value, valuesOf, verbatimJoin}
+use Rattle.verbatim.specs.Verbatim.{Spelling, spellingsOf, verbatimJoin}
 
 -- `.` and `..` stay in p, which is read by `\` alone; in q they go, with d names before them
 abbrev pub mendOf : Seps → ℕ → Sift
@@ -41,21 +41,21 @@ abbrev pub leftBy : Sift → ℕ
 leftBy Keep = 0
 leftBy (Drop d) = d
 
-abbrev pub keptBy : Sift → Value → List Value → List Value
+abbrev pub keptBy : Sift → Spelling → List Spelling → List Spelling
 keptBy Keep v l = v ∷ l
 keptBy (Drop d) v l = l
 
 -- of a list whose last c names are to go: how many are to go before it, and what stays of it
-unfoldable pub owed : Seps → ℕ → List Value → ℕ
+unfoldable pub owed : Seps → ℕ → List Spelling → ℕ
 owed k c [] = c
 owed k c (v ∷ l) = leftBy (siftOf k (v .component) (owed k c l))
 
-unfoldable pub kept : Seps → ℕ → List Value → List Value
+unfoldable pub kept : Seps → ℕ → List Spelling → List Spelling
 kept k c [] = []
 kept k c (v ∷ l) = keptBy (siftOf k (v .component) (owed k c l)) v (kept k c l)
 
 -- the bytes of a list, with a `\` before each
-unfoldable pub flat : List Value → List ℕ
+unfoldable pub flat : List Spelling → List ℕ
 flat [] = []
 flat (v ∷ l) = (92 ∷ v .bytes) ++ flat l
 
@@ -64,13 +64,13 @@ unfoldable pub bulk : Seps → List ℕ → ℕ → ℕ → ℕ
 bulk k s lo hi = length (within (isSep k) (dots k) s lo hi)
 
 unfoldable pub owedAt : Seps → List ℕ → ℕ → ℕ → ℕ → ℕ
-owedAt k s lo hi c = owed k c (valuesOf s (within (isSep k) (dots k) s lo hi))
+owedAt k s lo hi c = owed k c (spellingsOf s (within (isSep k) (dots k) s lo hi))
 
 unfoldable pub textAt : Seps → List ℕ → ℕ → ℕ → ℕ → List ℕ
-textAt k s lo hi c = flat (kept k c (valuesOf s (within (isSep k) (dots k) s lo hi)))
+textAt k s lo hi c = flat (kept k c (spellingsOf s (within (isSep k) (dots k) s lo hi)))
 
-abbrev pub spanText : Seps → List ℕ → Span → List ℕ
-spanText k s t = textAt k s (t .lo) (t .hi) (t .left)
+abbrev pub stretchText : Seps → List ℕ → Stretch → List ℕ
+stretchText k s t = textAt k s (t .lo) (t .hi) (t .left)
 
 -- what a loop over a span keeps at place e, with c names to go
 pub record Reading (k : Seps) (s : List ℕ) (lo left e c : ℕ) : Type 0 where
@@ -78,8 +78,8 @@ pub record Reading (k : Seps) (s : List ℕ) (lo left e c : ℕ) : Type 0 where
   pub small : c + bulk k s lo e ≤ left + length s + 1
 
 -- `count_kept`, and what its loop keeps beside, with n bytes counted
-pub record Tallied (k : Seps) (s : List ℕ) (t : Span) (r : Tally) : Type 0 where
-  pub len : r .len ≡ length (spanText k s t)
+pub record Tallied (k : Seps) (s : List ℕ) (t : Stretch) (r : Tally) : Type 0 where
+  pub len : r .len ≡ length (stretchText k s t)
   pub left : r .left ≡ owedAt k s (t .lo) (t .hi) (t .left)
   pub few : r .len ≤ 2 * length s + 1
   pub small : r .left ≤ t .left + length s + 1
@@ -116,12 +116,12 @@ pub record Shared (p q : List ℕ) (b : Share) : Type 0 where
 
 -- the bytes behind the prefix by a plan
 unfoldable pub planText : List ℕ → List ℕ → Plan → List ℕ
-planText p q w = cond (w .root) (92 ∷ []) (spanText OnlyBack p (w .front) ++ spanText Windows q (w .tail))
+planText p q w = cond (w .root) (92 ∷ []) (stretchText OnlyBack p (w .front) ++ stretchText Windows q (w .tail))
 
 pub record Planned (p q : List ℕ) (w : Plan) : Type 0 where
   pub is : verbatimJoin p q ≡ take (w .end) p ++ planText p q w
   pub len : w .len ≡ w .end + length (planText p q w)
-  pub room : length (spanText OnlyBack p (w .front)) + length (spanText Windows q (w .tail)) ≤ w .len
+  pub room : length (stretchText OnlyBack p (w .front)) + length (stretchText Windows q (w .tail)) ≤ w .len
   pub end-in : w .end ≤ length p
   pub front-in : w .front .hi ≤ length p
   pub front-left : w .front .left ≤ length q + 1

@@ -2,7 +2,7 @@
 use Prim.Native.Nat.{ℕ}
 use mathlib.Core.List.{List, [], _∷_, _++_}
 use mathlib.Core.Bool.{Bool, true, false, cond}
-use lib.ListN.{take, drop}
+use lib.ListN.{take}
 use Rattle.octets.specs.declared.Seps.the-variants.{Windows}
 use Rattle.prefixes.specs.declared.Prefix.{Prefix}
 use Rattle.prefixes.specs.declared.Prefix.the-variants.{Verbatim, VerbatimUnc, VerbatimDisk, DeviceNs, Unc, Disk}
@@ -11,6 +11,7 @@ use Rattle.prefixes.specs.declared.Parsed.the-variants.{Nothing, Is}
 use Rattle.parts.specs.declared.Component.{Component}
 use Rattle.parts.specs.declared.Component.the-variants.{Prefix as Prefixed, RootDir, CurDir, ParentDir, Normal}
 use Rattle.parts.specs.declared.Element.{Element}
+use Rattle.parts.specs.Elements.{bytesOf}
 use Rattle.components.specs.List.{listOf}
 
 -- "p verbatim": one of the three verbatim prefixes
@@ -26,34 +27,34 @@ abbrev pub verbatimIn : Parsed → Bool
 verbatimIn Nothing = false
 verbatimIn (Is p) = verbatimKind p
 
--- a component, and the bytes that it has in its path
-pub record Value : Type 0 where
+-- a component as its path spells it: with its bytes there
+pub record Spelling : Type 0 where
   pub component : Component
   pub bytes : List ℕ
 
-abbrev pub valueOf : List ℕ → Element → Value
-valueOf s x = record { component = x .component; bytes = take (x .len) (drop (x .start) s) }
+abbrev pub spellingOf : List ℕ → Element → Spelling
+spellingOf s x = record { component = x .component; bytes = bytesOf s x }
 
-unfoldable pub valuesOf : List ℕ → List Element → List Value
-valuesOf s [] = []
-valuesOf s (x ∷ l) = valueOf s x ∷ valuesOf s l
+unfoldable pub spellingsOf : List ℕ → List Element → List Spelling
+spellingsOf s [] = []
+spellingsOf s (x ∷ l) = spellingOf s x ∷ spellingsOf s l
 
 -- "ParentDir removes a last Normal and otherwise does nothing"
-abbrev pub unlessNormal : Component → Value → List Value
+abbrev pub unlessNormal : Component → Spelling → List Spelling
 unlessNormal (Prefixed p) v = v ∷ []
 unlessNormal RootDir v = v ∷ []
 unlessNormal CurDir v = v ∷ []
 unlessNormal ParentDir v = v ∷ []
 unlessNormal Normal v = []
 
-unfoldable pub popped : List Value → List Value
+unfoldable pub popped : List Spelling → List Spelling
 popped [] = []
 popped (v ∷ []) = unlessNormal (v .component) v
 popped (v ∷ w ∷ l) = v ∷ popped (w ∷ l)
 
 -- "RootDir cuts to the prefix and adds RootDir, CurDir does nothing, ParentDir removes a last Normal .., Normal is added".
 -- The prefix is the first of p's list; q has none, since case 1 comes first.
-abbrev pub added : Component → Value → List Value → List Value
+abbrev pub added : Component → Spelling → List Spelling → List Spelling
 added (Prefixed p) v l = l ++ (v ∷ [])
 added RootDir v l = take 1 l ++ (v ∷ [])
 added CurDir v l = l
@@ -61,7 +62,7 @@ added ParentDir v l = popped l
 added Normal v l = l ++ (v ∷ [])
 
 -- "take p's list; for q's list .."
-unfoldable pub laid : List Value → List Value → List Value
+unfoldable pub laid : List Spelling → List Spelling → List Spelling
 laid l [] = l
 laid l (v ∷ q) = laid (added (v .component) v l) q
 
@@ -85,10 +86,10 @@ abbrev pub between : Bool → Bool → List ℕ
 between b c = cond b [] (cond c [] (92 ∷ []))
 
 -- the bytes of a list, where b says that nothing stands before it, or RootDir does
-unfoldable pub written : Bool → List Value → List ℕ
+unfoldable pub written : Bool → List Spelling → List ℕ
 written b [] = []
 written b (v ∷ l) = between b (isRootDir (v .component)) ++ textOf (v .component) (v .bytes) ++ written (isRootDir (v .component)) l
 
 -- p, which has a verbatim prefix, joined with a q that is not empty and has no prefix
 unfoldable pub verbatimJoin : List ℕ → List ℕ → List ℕ
-verbatimJoin p q = written true (laid (valuesOf p (listOf Windows p)) (valuesOf q (listOf Windows q)))
+verbatimJoin p q = written true (laid (spellingsOf p (listOf Windows p)) (spellingsOf q (listOf Windows q)))

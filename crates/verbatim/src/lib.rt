@@ -22,7 +22,7 @@ ghost use Rattle.prefixes.specs.declared.Parsed.the-variants.{Nothing as None};
 ghost use Rattle.prefixes.specs.Prefix.{prefixIn};
 ghost use Rattle.parts.specs.Body.{componentOf};
 ghost use Rattle.verbatim.specs.Verbatim.{verbatimKind, verbatimIn, verbatimJoin};
-ghost use Rattle.verbatim.specs.Leaves.{mendOf, siftOf, spanText, Tallied, endingAt, rootsOf, Shared, planText, Planned};
+ghost use Rattle.verbatim.specs.Leaves.{mendOf, siftOf, stretchText, Tallied, endingAt, rootsOf, Shared, planText, Planned};
 
 // What becomes of a part, met from the back: it stays, or it is left out, and then so many names before it are to go.
 pub enum Sift {
@@ -31,7 +31,7 @@ pub enum Sift {
 }
 
 // What is read of a path: its parts from `lo` to `hi`, of whose last names `left` are to go.
-pub struct Span {
+pub struct Stretch {
     pub lo: usize,
     pub hi: usize,
     pub left: usize,
@@ -56,8 +56,8 @@ pub struct Share {
 pub struct Plan {
     pub end: usize,
     pub root: bool,
-    pub front: Span,
-    pub tail: Span,
+    pub front: Stretch,
+    pub tail: Stretch,
     pub len: usize,
 }
 
@@ -113,7 +113,7 @@ fn sift_kind(k: Seps, kind: Kind, c: usize) -> Sift
 }
 
 // What stays of a span.
-fn count_kept(k: Seps, s: &[u8], t: Span) -> Tally
+fn count_kept(k: Seps, s: &[u8], t: Stretch) -> Tally
     requires { ⌜ (length (now s) ≤ limit) × (t .hi ≤ length (now s)) × (t .left ≤ limit + 1) ⌝ }
     ensures { λ r. ⌜ Tallied k (now (s .entry)) t r ⌝ }
 {
@@ -161,10 +161,10 @@ fn put_part(out: &mut [u8], k: usize, s: &[u8], x: Part) -> usize
 }
 
 // What stays of a span, written so that it ends at n; where it starts.
-fn write_kept(k: Seps, s: &[u8], t: Span, out: &mut [u8], n: usize) -> usize
-    requires { ⌜ (length (now s) ≤ limit) × (t .hi ≤ length (now s)) × (t .left ≤ limit + 1) × (length (spanText k (now s) t) ≤ n) × (n ≤ length (now out)) ⌝ }
-    ensures { λ r. ⌜ n ≡ r + length (spanText k (now (s .entry)) t) ⌝ }
-    ensures { λ _. ⌜ now (out .exit) ≡ endingAt n (spanText k (now (s .entry)) t) (now (out .entry)) ⌝ }
+fn write_kept(k: Seps, s: &[u8], t: Stretch, out: &mut [u8], n: usize) -> usize
+    requires { ⌜ (length (now s) ≤ limit) × (t .hi ≤ length (now s)) × (t .left ≤ limit + 1) × (length (stretchText k (now s) t) ≤ n) × (n ≤ length (now out)) ⌝ }
+    ensures { λ r. ⌜ n ≡ r + length (stretchText k (now (s .entry)) t) ⌝ }
+    ensures { λ _. ⌜ now (out .exit) ≡ endingAt n (stretchText k (now (s .entry)) t) (now (out .entry)) ⌝ }
 {
     let lo = t.lo;
     let mut e = t.hi;
@@ -245,13 +245,13 @@ fn plan_of(p: &[u8], q: &[u8]) -> Plan
 {
     let b = share_of(p, q);
     let end = b.end;
-    let tail = Span {
+    let tail = Stretch {
         lo: b.at,
         hi: q.len(),
         left: 0,
     };
     let x = count_kept(Seps::Windows, q, tail);
-    let front = Span {
+    let front = Stretch {
         lo: b.lo,
         hi: b.hi,
         left: x.left,

@@ -32,16 +32,16 @@ use Rattle.parts.specs.Body.{dots, put, sortAt, sortBy, rest, from}
 use Rattle.parts.specs.Elements.{nthBackOf}
 use Rattle.parts.specs.Steps.{lift, within, BeginAt}
 use Rattle.parts.specs.Laws.{back-before, begin-start, begin-here, begin-more, begin-out, seam-at, alone, ahead, within-none}
-use Rattle.prefixes.specs.Prefix.{prefixIn, endOfPrefix, prefixOf, begins, drive}
+use Rattle.prefixes.specs.Prefix.{prefixIn, endOfPrefix, prefixOf, begins, drive, onDisk}
 use Rattle.components.specs.declared.Dir.{Dir}
 use Rattle.components.specs.declared.Dir.the-variants.{Bare, Root, Implied, Dot as Lone}
 use Rattle.components.specs.List.{sepAt, dotAt, innerSeps, behindPrefix, dirOf, dirLen, startOf, headList, bodyList, wholeOf, listOf, rootless}
 use Rattle.components.specs.Leaves.{OpenAt}
 use Rattle.components.specs.Laws.{begin-is, dot-past, dot-not, dot-end, dot-sep}
 use Rattle.prefixes.specs.Cut.{prefix-cut}
-use Rattle.views.specs.Leaves.{cutOf, upBy, leftOf, headUp}
+use Rattle.views.specs.Leaves.{cutOf, upBy, listTo, headUp}
 use Rattle.views.specs.Views.{climbs, restBack, parentOf, ancestorOf}
-use Rattle.cursors.specs.Rest.{onDisk, isBare, dotted}
+use Rattle.cursors.specs.Rest.{isBare, dotted}
 use Rattle.views.specs.Laws.{climbs-few, up-on, up-rest, stays, head-alone, ends-at, alone as head-lone, dot-in, parted, cut-last, whole-left, dot-same, drive-alone, kind-leaves}
 
 -- ---- over lists: the ancestor one further is the parent of the list without its last n components
@@ -281,8 +281,8 @@ module _ (k : Seps) (v : dots k ≡ false) (s : List ℕ) where
       unfolding startOf
       start-take = rw (p, dir-take)
 
-      list-take : listOf k (take e s) ≡ leftOf (startOf k s) s e
-      unfolding listOf wholeOf bodyList leftOf within
+      list-take : listOf k (take e s) ≡ listTo (startOf k s) s e
+      unfolding listOf wholeOf bodyList listTo within
       list-take = rw start-take
 
       disk-take : dotted (startOf k (take e s)) (take e s) ≡ dotted (startOf k s) s
@@ -290,7 +290,7 @@ module _ (k : Seps) (v : dots k ≡ false) (s : List ℕ) where
 
   -- ---- the list up to a place, and where it ends
   record Trimmed (top e : ℕ) : Type 0 where
-    same : leftOf (startOf k s) s e ≡ leftOf (startOf k s) s top
+    same : listTo (startOf k s) s e ≡ listTo (startOf k s) s top
     inside : e ≤ length s
     good : Good e
 
@@ -322,8 +322,8 @@ module _ (k : Seps) (v : dots k ≡ false) (s : List ℕ) where
       (λ y. rw y (drive-skip (sym m ∙ y)))
       (λ y. rw y (within-none (isSep (startOf k s .seps)) (dots (startOf k s .seps)) s (startOf k s .at) (startOf k s .at + 0) (omega arith) (omega (arith, o .high))))
 
-  trim-head : (top : ℕ) → bodyTo top ≡ [] → Trimmed top (cutOf (dotted (startOf k s) s) (leftOf (startOf k s) s top) 0)
-  unfolding leftOf
+  trim-head : (top : ℕ) → bodyTo top ≡ [] → Trimmed top (cutOf (dotted (startOf k s) s) (listTo (startOf k s) s top) 0)
+  unfolding listTo
   trim-head top z =
       let o = opened in
       let m = dot-same k s (startOf k s) o in
@@ -334,15 +334,15 @@ module _ (k : Seps) (v : dots k ≡ false) (s : List ℕ) where
         good = inl refl;
       })
 
-  same-left : (a b : ℕ) → bodyTo a ≡ bodyTo b → leftOf (startOf k s) s a ≡ leftOf (startOf k s) s b
-  unfolding leftOf
+  same-left : (a b : ℕ) → bodyTo a ≡ bodyTo b → listTo (startOf k s) s a ≡ listTo (startOf k s) s b
+  unfolding listTo
   same-left a b h = rw h
 
-  trim-part : (top : ℕ) → top ≤ length s → (q : Part) → Final (isSep (startOf k s .seps)) (dots (startOf k s .seps)) s (startOf k s .at) top q → Trimmed top (cutOf (dotted (startOf k s) s) (leftOf (startOf k s) s top) 0)
+  trim-part : (top : ℕ) → top ≤ length s → (q : Part) → Final (isSep (startOf k s .seps)) (dots (startOf k s .seps)) s (startOf k s .at) top q → Trimmed top (cutOf (dotted (startOf k s) s) (listTo (startOf k s) s top) 0)
   trim-part top c q f =
       let o = opened in
       let sep = isSep (startOf k s .seps) in
-      let x : cutOf (dotted (startOf k s) s) (leftOf (startOf k s) s top) 0 ≡ q .start + q .len = rw (dot-same k s (startOf k s) o) (cut-last k s (startOf k s) o top (bodyTo (q .start)) (lift q) (f .is)) in
+      let x : cutOf (dotted (startOf k s) s) (listTo (startOf k s) s top) 0 ≡ q .start + q .len = rw (dot-same k s (startOf k s) o) (cut-last k s (startOf k s) o top (bodyTo (q .start)) (lift q) (f .is)) in
       let a : bodyTo (q .start + q .len) ≡ [] → ⊥ = λ z. omega (arith, ap length (sym z ∙ f .same ∙ f .is), length-append (bodyTo (q .start)) (lift q ∷ [])) in
       let b : q .start + q .len ≤ length s = omega (arith, f .high) in
       rw x
@@ -352,15 +352,15 @@ module _ (k : Seps) (v : dots k ≡ false) (s : List ℕ) where
         good = inr (split (ltb (startOf k s .at) (q .start + q .len)) (λ t. ltb-true (startOf k s .at) (q .start + q .len) t) (λ t. absurd (a (within-none sep (dots (startOf k s .seps)) s (startOf k s .at) (q .start + q .len) (ltb-false (startOf k s .at) (q .start + q .len) t) b))), a);
       })
 
-  trim : (top : ℕ) → top ≤ length s → Trimmed top (cutOf (dotted (startOf k s) s) (leftOf (startOf k s) s top) 0)
+  trim : (top : ℕ) → top ≤ length s → Trimmed top (cutOf (dotted (startOf k s) s) (listTo (startOf k s) s top) 0)
   trim top c = last-by (isSep (startOf k s .seps)) (dots (startOf k s .seps)) s (startOf k s .at) top c (trim-head top) (trim-part top c)
 
 -- ---- the parent of the one before
 
 -- what f makes of the one before; Absent once there is none
-abbrev pub onView : Outcome View → (ℕ → Outcome View) → Outcome View
-onView (refuse r) f = refuse r
-onView (result v) f = f (v .len)
+abbrev pub onCut : Outcome View → (ℕ → Outcome View) → Outcome View
+onCut (refuse r) f = refuse r
+onCut (result v) f = f (v .len)
 
 parent-up : (k : Seps) (s : List ℕ) → parentOf k s ≡ upBy (dotted (startOf k s) s) (listOf k s) 1
 unfolding parentOf restBack climbs
@@ -382,11 +382,11 @@ unfolding ancestorOf nthBackOf
 lone-next k zero = refl
 lone-next k (suc n) = rw (ancestor-up n k [], empty-list k, ne-eqb (suc (suc n)) 1 (λ z. omega arith)) (sym (stays (dotted (startOf k []) []) [] n refl))
 
-on-same : (o : Outcome View) (f g : ℕ → Outcome View) → ((e : ℕ) → f e ≡ g e) → onView o f ≡ onView o g
+on-same : (o : Outcome View) (f g : ℕ → Outcome View) → ((e : ℕ) → f e ≡ g e) → onCut o f ≡ onCut o g
 on-same (refuse r) f g h = refl
 on-same (result v) f g h = h (v .len)
 
-on-on : (o : Outcome View) (f g : ℕ → Outcome View) → onView o (λ e. onView (f e) g) ≡ onView (onView o f) g
+on-on : (o : Outcome View) (f g : ℕ → Outcome View) → onCut o (λ e. onCut (f e) g) ≡ onCut (onCut o f) g
 on-on (refuse r) f g = refl
 on-on (result v) f g = refl
 
@@ -399,11 +399,11 @@ wider : (a b : ℕ) (o : Outcome View) → a ≤ b → Within a o → Within b o
 wider a b (refuse r) h w = tt
 wider a b (result v) h w = omega (arith, w)
 
-on-within : (m : ℕ) (o : Outcome View) (f : ℕ → Outcome View) → ((e : ℕ) → Within m (f e)) → Within m (onView o f)
+on-within : (m : ℕ) (o : Outcome View) (f : ℕ → Outcome View) → ((e : ℕ) → Within m (f e)) → Within m (onCut o f)
 on-within m (refuse r) f h = tt
 on-within m (result v) f h = h (v .len)
 
-on-same-within : (m : ℕ) (o : Outcome View) (f g : ℕ → Outcome View) → Within m o → ((e : ℕ) → e ≤ m → f e ≡ g e) → onView o f ≡ onView o g
+on-same-within : (m : ℕ) (o : Outcome View) (f g : ℕ → Outcome View) → Within m o → ((e : ℕ) → e ≤ m → f e ≡ g e) → onCut o f ≡ onCut o g
 on-same-within m (refuse r) f g w h = refl
 on-same-within m (result v) f g w h = h (v .len) w
 
@@ -411,14 +411,14 @@ on-same-within m (result v) f g w h = h (v .len) w
 module _ (k : Seps) (v : dots k ≡ false) (stable : (s : List ℕ) (e : ℕ) → startOf k s .at ≤ e → prefixIn k (take e s) ≡ prefixIn k s) where
   module _ (s : List ℕ) where
     -- from the other end: the ancestors of the parent
-    case-dir : (d : Dir) (n : ℕ) → headUp d (suc n) ≡ onView (headUp d 1) (λ e. ancestorOf n k (take e s))
+    case-dir : (d : Dir) (n : ℕ) → headUp d (suc n) ≡ onCut (headUp d 1) (λ e. ancestorOf n k (take e s))
     case-dir Bare n = refl
     case-dir Root n = refl
     case-dir Implied n = refl
     case-dir Lone n = lone-next k n
 
-    front-head : (n : ℕ) → bodyTo k v s (length s) ≡ [] → ancestorOf (suc n) k s ≡ onView (parentOf k s) (λ e. ancestorOf n k (take e s))
-    unfolding leftOf
+    front-head : (n : ℕ) → bodyTo k v s (length s) ≡ [] → ancestorOf (suc n) k s ≡ onCut (parentOf k s) (λ e. ancestorOf n k (take e s))
+    unfolding listTo
     front-head n z =
         let o = opened k v s in
         let l : listOf k s ≡ headList (startOf k s) = whole-left k s (startOf k s) o ∙ rw (z, append-nil) in
@@ -427,20 +427,20 @@ module _ (k : Seps) (v : dots k ≡ false) (stable : (s : List ℕ) (e : ℕ) �
 
     module _ (q : Part) (f : Final (isSep (startOf k s .seps)) (dots (startOf k s .seps)) s (startOf k s .at) (length s) q) where
       cut : ℕ
-      cut = cutOf (dotted (startOf k s) s) (leftOf (startOf k s) s (q .start)) 0
+      cut = cutOf (dotted (startOf k s) s) (listTo (startOf k s) s (q .start)) 0
 
       trimmed : Trimmed k v s (q .start) cut
       unfolding cut
       trimmed = trim k v s (q .start) (f .low)
 
-      split-list : listOf k s ≡ leftOf (startOf k s) s (q .start) ++ (lift q ∷ [])
-      unfolding leftOf
+      split-list : listOf k s ≡ listTo (startOf k s) s (q .start) ++ (lift q ∷ [])
+      unfolding listTo
       split-list = whole-left k s (startOf k s) (opened k v s) ∙ parted k s (startOf k s) (opened k v s) (length s) (bodyTo k v s (q .start)) (lift q) (f .is)
 
-      up-part : (n : ℕ) → upBy (dotted (startOf k s) s) (listOf k s) (n + 1) ≡ upBy (dotted (startOf k s) s) (leftOf (startOf k s) s (q .start)) n
-      up-part n = rw split-list (up-on (leftOf (startOf k s) s (q .start)) (lift q) (kind-leaves (q .kind)) (dotted (startOf k s) s) n)
+      up-part : (n : ℕ) → upBy (dotted (startOf k s) s) (listOf k s) (n + 1) ≡ upBy (dotted (startOf k s) s) (listTo (startOf k s) s (q .start)) n
+      up-part n = rw split-list (up-on (listTo (startOf k s) s (q .start)) (lift q) (kind-leaves (q .kind)) (dotted (startOf k s) s) n)
 
-      rest-of : (n : ℕ) → upBy (dotted (startOf k s) s) (leftOf (startOf k s) s (q .start)) n ≡ ancestorOf n k (take cut s)
+      rest-of : (n : ℕ) → upBy (dotted (startOf k s) s) (listTo (startOf k s) s (q .start)) n ≡ ancestorOf n k (take cut s)
       unfolding ancestorOf upBy climbs guard cut
       rest-of zero = rw (length-take-le cut s (trimmed .inside))
       rest-of (suc n) =
@@ -448,16 +448,16 @@ module _ (k : Seps) (v : dots k ≡ false) (stable : (s : List ℕ) (e : ℕ) �
           let p = stable s cut (at-good k v s cut (t .inside) (t .good)) in
           sym (ancestor-up n k (take cut s) ∙ rw (disk-take k v s cut (t .inside) (t .good) p, list-take k v s cut (t .inside) (t .good) p, t .same))
 
-      none-taken : upBy (dotted (startOf k s) s) (leftOf (startOf k s) s (q .start)) 0 ≡ result (seen 0 cut)
+      none-taken : upBy (dotted (startOf k s) s) (listTo (startOf k s) s (q .start)) 0 ≡ result (seen 0 cut)
       unfolding upBy climbs guard cut
       none-taken = refl
 
-      front-part : (n : ℕ) → ancestorOf (suc n) k s ≡ onView (parentOf k s) (λ e. ancestorOf n k (take e s))
+      front-part : (n : ℕ) → ancestorOf (suc n) k s ≡ onCut (parentOf k s) (λ e. ancestorOf n k (take e s))
       front-part n =
           let b : parentOf k s ≡ result (seen 0 cut) = parent-up k s ∙ up-part 0 ∙ none-taken in
           ancestor-up n k s ∙ rw (← add-one n) (up-part n ∙ rw b (rest-of n))
 
-    front : (n : ℕ) → ancestorOf (suc n) k s ≡ onView (parentOf k s) (λ e. ancestorOf n k (take e s))
+    front : (n : ℕ) → ancestorOf (suc n) k s ≡ onCut (parentOf k s) (λ e. ancestorOf n k (take e s))
     front n = last-by (isSep (startOf k s .seps)) (dots (startOf k s .seps)) s (startOf k s .at) (length s) (omega arith) (front-head n) (λ q f. front-part q f n)
 
   -- an ancestor lies in the path
@@ -466,18 +466,18 @@ module _ (k : Seps) (v : dots k ≡ false) (stable : (s : List ℕ) (e : ℕ) �
   bound zero s = omega arith
   bound (suc n) s = rw (front s n) (on-within (length s) (parentOf k s) (λ e. ancestorOf n k (take e s)) (λ e. wider (length (take e s)) (length s) (ancestorOf n k (take e s)) (omega (arith, length-take e s)) (bound n (take e s))))
 
-  next-of : (n : ℕ) (s : List ℕ) → ancestorOf (n + 1) k s ≡ onView (ancestorOf n k s) (λ e. parentOf k (take e s))
+  next-of : (n : ℕ) (s : List ℕ) → ancestorOf (n + 1) k s ≡ onCut (ancestorOf n k s) (λ e. parentOf k (take e s))
   unfolding ancestorOf
   next-of zero s = rw (take-length s) (ancestor-up 0 k s ∙ sym (parent-up k s))
   next-of (suc n) s =
       rw add-one
       (front s (suc n)
-      ∙ on-same (parentOf k s) (λ e. ancestorOf (suc n) k (take e s)) (λ e. onView (ancestorOf n k (take e s)) (λ u. parentOf k (take u s)))
+      ∙ on-same (parentOf k s) (λ e. ancestorOf (suc n) k (take e s)) (λ e. onCut (ancestorOf n k (take e s)) (λ u. parentOf k (take u s)))
       (λ e. (rw add-one at (next-of n (take e s)))
       ∙ on-same-within (length (take e s)) (ancestorOf n k (take e s)) (λ u. parentOf k (take u (take e s))) (λ u. parentOf k (take u s)) (bound n (take e s))
       (λ u h. ap (parentOf k) (take-take u e s (omega (arith, length-take e s)))))
       ∙ on-on (parentOf k s) (λ e. ancestorOf n k (take e s)) (λ u. parentOf k (take u s))
-      ∙ ap (λ (o : Outcome View). onView o (λ u. parentOf k (take u s))) (sym (front s n)))
+      ∙ ap (λ (o : Outcome View). onCut o (λ u. parentOf k (take u s))) (sym (front s n)))
 
 -- Unix has no prefix; a Windows prefix stands as long as it and a separator that follows it remain
 stable-of : (k : Seps) → dots k ≡ false → (s : List ℕ) (e : ℕ) → startOf k s .at ≤ e → prefixIn k (take e s) ≡ prefixIn k s
@@ -494,5 +494,5 @@ unfolding sepsOf
 no-dots m = split (eqb m 0) (λ y. rw y) (λ y. rw y)
 
 -- in either mode
-pub next-one : (m n : ℕ) (s : List ℕ) → ancestorOf (n + 1) (sepsOf m) s ≡ onView (ancestorOf n (sepsOf m) s) (λ e. parentOf (sepsOf m) (take e s))
+pub next-one : (m n : ℕ) (s : List ℕ) → ancestorOf (n + 1) (sepsOf m) s ≡ onCut (ancestorOf n (sepsOf m) s) (λ e. parentOf (sepsOf m) (take e s))
 next-one m n s = next-of (sepsOf m) (no-dots m) (stable-of (sepsOf m) (no-dots m)) n s

@@ -3,7 +3,7 @@ use Prim.Native.Nat.{ℕ, zero, suc, _+_, _-_, _*_, _^_, _<_, _≤_}
 use mir.Syntax.{w64}
 use mir.Val.{Fits}
 use native.Mathlib.Numerals.{add-one}
-use native.Mathlib.Nat.{add-sub-cancel-left}
+use native.Mathlib.Nat.{add-zero, add-suc, add-sub-cancel-left}
 use native.Mathlib.Omega.{arith}
 use mathlib.Core.Path.{_≡_, refl, sym, ap, _∙_}
 use mathlib.Core.List.{List, [], _∷_, _++_, append-nil, append-assoc}
@@ -23,30 +23,32 @@ use Rattle.prefixes.specs.declared.Prefix.{Prefix}
 use Rattle.prefixes.specs.declared.Prefix.the-variants.{Verbatim, VerbatimUnc, VerbatimDisk, DeviceNs, Unc, Disk}
 use Rattle.prefixes.specs.declared.Parsed.{Parsed}
 use Rattle.prefixes.specs.declared.Parsed.the-variants.{Nothing, Is}
-use Rattle.prefixes.specs.Prefix.{prefixIn, endOfPrefix}
+use Rattle.prefixes.specs.Prefix.{prefixIn, endOfPrefix, isDisk, onDisk}
+use Rattle.parts.specs.declared.Component.{Component}
+use Rattle.parts.specs.declared.Component.the-variants.{Prefix as Prefixed, RootDir, CurDir, ParentDir, Normal}
 use Rattle.parts.specs.declared.Element.{Element}
 use Rattle.parts.specs.declared.Item.the-variants.{Missing, Here}
 use Rattle.parts.specs.declared.Kind.{Kind}
 use Rattle.parts.specs.declared.Kind.the-variants.{Dot, DotDot, Name}
 use Rattle.parts.specs.declared.Part.{Part}
+use Rattle.parts.specs.declared.Back.{Back}
+use Rattle.parts.specs.declared.Back.the-variants.{At, Left}
 use Rattle.parts.specs.declared.Piece.{Piece}
 use Rattle.parts.specs.declared.Piece.the-variants.{Nothing as None, Found}
 use Rattle.parts.specs.Body.{componentOf, dots}
 use Rattle.parts.specs.Elements.{nthOf, nthBackOf, endOr}
-use Rattle.parts.specs.Steps.{lift, within, LastAt}
-use Rattle.parts.specs.Laws.{last-none, last-found, back-last, back-on, back-past, back-nth, back-inside}
+use Rattle.parts.specs.Steps.{isName, lift, within, LastAt, BackAt}
+use Rattle.parts.specs.Laws.{last-none, last-found, back-last, back-on, back-past, back-nth, back-behind, back-before, Bodily, Goods, from-good, good-nth, back-inside}
 use Rattle.components.specs.declared.Dir.{Dir}
 use Rattle.components.specs.declared.Dir.the-variants.{Bare, Root, Implied, Dot as Lone}
 use Rattle.components.specs.declared.Start.{Start}
 use Rattle.components.specs.declared.Body.{Body as Within}
-use Rattle.components.specs.List.{sepAt, dotAt, prefixDir, behindPrefix, dirOf, dirLen, startOf, prefixPart, dirPart, headList, bodyList, wholeOf, listOf, isDisk}
+use Rattle.components.specs.List.{sepAt, dotAt, prefixDir, behindPrefix, dirOf, dirLen, startOf, prefixPart, dirPart, headList, bodyList, wholeOf, listOf}
 use Rattle.components.specs.Leaves.{OpenAt, BodyAt}
-use Rattle.components.specs.Laws.{dot-past, whole-list, open-start, last-begun}
-use Rattle.views.specs.declared.Reached.{Reached}
-use Rattle.views.specs.declared.Reached.the-variants.{Body, Head}
-use Rattle.cursors.specs.Rest.{viewOf, span, onDisk, isBare, dotted, behindDot, leftEnd, emptyAt, restOf}
-use Rattle.views.specs.Views.{leavesKind, leaves, climbs, restBack, parentOf, ancestorOf, isNormal, named, lastName, hasDot, lastDot, ofName, wholeSeen, stemSeen, extensionSeen}
-use Rattle.views.specs.Leaves.{cutOf, upBy, ViewAt, CutAt, leftOf, Steps, ClimbAt, headUp, isName, NameAt, BaseAt, dotIn, DotAt, StemAt}
+use Rattle.components.specs.Laws.{dot-inside, whole-list, open-start, last-begun}
+use Rattle.cursors.specs.Rest.{viewOf, span, isBare, dotted, behindDot, leftEnd, emptyAt, restOf}
+use Rattle.views.specs.Views.{leavesKind, leaves, climbs, restBack, parentOf, ancestorOf, isNormal, ifNormal, lastName, hasDot, lastDot, ofName, wholeSeen, stemSeen, extensionSeen}
+use Rattle.views.specs.Leaves.{cutOf, upBy, ViewAt, CutAt, listTo, headUp, NameAt, BaseAt, dotIn, DotAt, StemAt}
 
 -- ---- steps back from a list
 
@@ -98,38 +100,64 @@ climbs-few l (suc n) e =
 climbs-past : (l : List Element) (n : ℕ) → length l < n → climbs l n ≡ false
 climbs-past l n h = split (climbs l n) (λ t. absurd (omega (arith, climbs-few l n t))) (λ t. t)
 
--- ---- `climb`
+-- ---- a head g and a body b, each of whose elements leaves
 
 pub kind-leaves : (q : Kind) → leavesKind (componentOf q) ≡ true
 kind-leaves Dot = refl
 kind-leaves DotDot = refl
 kind-leaves Name = refl
 
-pub steps-start : (l : List Element) (n : ℕ) → Steps l n l n
-unfolding Steps
-steps-start l n = λ dot g. refl
+bodily-leaves : (v : Bool) (c : Component) → Bodily v c → leavesKind c ≡ true
+bodily-leaves v (Prefixed p) b = absurd b
+bodily-leaves v RootDir b = absurd b
+bodily-leaves v CurDir b = refl
+bodily-leaves v ParentDir b = refl
+bodily-leaves v Normal b = refl
 
-module _ (sep : ℕ → Bool) (v : Bool) (s : List ℕ) (lo e n m : ℕ) (h : Steps (within sep v s lo (length s)) n (within sep v s lo e) m) where
-  pub climb-body : m ≤ 0 → e ≤ length s → ClimbAt sep v s lo n (Body e)
-  climb-body z c = let y : m ≡ 0 = omega arith in record { is = (rw y at h, c) }
+item-leaves : (sep : ℕ → Bool) (v : Bool) (s : List ℕ) (l : List Element) (f : ℕ) → Goods sep v s l → f < length l → leaves (nthOf l f) ≡ true
+unfolding Goods nthOf
+item-leaves sep v s [] f u h = absurd (omega arith)
+item-leaves sep v s (x ∷ l) zero u h = bodily-leaves v (x .component) (u .0 .bodily)
+item-leaves sep v s (x ∷ l) (suc f) u h = item-leaves sep v s l f (u .1) (omega arith)
 
-  module _ (p : Piece) (f : LastAt sep v s lo e p) (w : 0 < m) where
-    pub climb-head : p ≡ None → ClimbAt sep v s lo n (Head m)
-    climb-head g = record { is = (rw (last-none f g) at h, w) }
+body-leaves : (sep : ℕ → Bool) (v : Bool) (s : List ℕ) (l : List Element) → Goods sep v s l → (f : ℕ) → f < length l → leaves (nthBackOf l f) ≡ true
+body-leaves sep v s l u f h = rw (back-nth l f h) (item-leaves sep v s l (length l - 1 - f) u (omega arith))
 
-    pub climb-on : (q : Part) → p ≡ Found q → Steps (within sep v s lo (length s)) n (within sep v s lo (q .start)) (m - 1)
-    unfolding Steps
-    climb-on q g = λ dot a.
-        let b : List Element = within sep v s lo (q .start) in
-        let y : m ≡ m - 1 + 1 = omega arith in
-        h dot a
-        ∙ ap (λ (x : List Element). upBy dot (a ++ x) m) (last-found f g .is)
-        ∙ ap (λ (x : List Element). upBy dot x m) (sym (append-assoc a b (lift q ∷ [])))
-        ∙ ap (upBy dot ((a ++ b) ++ (lift q ∷ []))) y
-        ∙ up-on (a ++ b) (lift q) (kind-leaves (q .kind)) dot (m - 1)
+module _ (g b : List Element) (u : (f : ℕ) → f < length b → leaves (nthBackOf b f) ≡ true) where
+  climbs-body : (n : ℕ) → n ≤ length b → climbs (g ++ b) n ≡ true
+  unfolding climbs
+  climbs-body zero h = refl
+  climbs-body (suc n) h = rw (climbs-body n (omega arith), back-behind g b n (omega arith), u n (omega arith))
 
-pub climb-in : (sep : ℕ → Bool) (v : Bool) (s : List ℕ) (lo n : ℕ) (r : Reached) (e : ℕ) → ClimbAt sep v s lo n r → r ≡ Body e → e ≤ length s
-climb-in sep v s lo n r e c g = (rw g at (c .is)) .1
+  over : (m : ℕ) → nthBackOf (g ++ b) (length b + m) ≡ nthBackOf g m
+  over m = let e : length b + m - length b ≡ m = omega arith in back-before g b (length b + m) (omega arith) ∙ rw e
+
+  climbs-over : (m : ℕ) → climbs (g ++ b) (length b + m) ≡ climbs g m
+  unfolding climbs
+  climbs-over zero = rw add-zero (climbs-body (length b) (omega arith))
+  climbs-over (suc m) = rw (add-suc, climbs-over m, over m)
+
+  cut-over : (dot : Bool) (m : ℕ) → cutOf dot (g ++ b) (length b + m) ≡ cutOf dot g m
+  unfolding cutOf
+  cut-over dot m =
+      rw (over m, length-append g b)
+      (split (eqb (length g) (m + 1))
+      (λ e. rw (e, eq-eqb (length g + length b) (length b + m + 1) (omega (arith, eqb-true (length g) (m + 1) e))))
+      (λ e. rw (e, ne-eqb (length g + length b) (length b + m + 1) (λ z. eqb-false (length g) (m + 1) e (omega arith)))))
+
+  -- the body is used up, and m steps are left
+  up-over : (dot : Bool) (m : ℕ) → upBy dot (g ++ b) (length b + m) ≡ upBy dot g m
+  unfolding upBy
+  up-over dot m = rw (climbs-over m, cut-over dot m)
+
+  -- the element with n behind it is one of the body; a dot behind a drive does not count there
+  up-inside : (dot : Bool) (n : ℕ) (x : Element) → n < length b → (dot ≡ true → length g ≡ 1) → Here x ≡ nthBackOf b n → upBy dot (g ++ b) n ≡ result (seen 0 (x .start + x .len))
+  unfolding upBy guard cutOf
+  up-inside dot n x h a e =
+      rw (climbs-body n (omega arith), back-behind g b n h, ← e)
+      (split dot
+      (λ y. let z : x .start + x .len + 0 ≡ x .start + x .len = omega arith in rw (y, ne-eqb (length (g ++ b)) (n + 1) (λ w. omega (arith, length-append g b, a y)), z))
+      (λ y. let z : x .start + x .len + 0 ≡ x .start + x .len = omega arith in rw (y, z)))
 
 -- ---- `head_up`
 pub up-fixed : (d x : Dir) (n : ℕ) (r : View) → d ≡ x → refuse Absent ≡ headUp x n → r ≡ refusedView Absent → r ≡ told refusedView (headUp d n)
@@ -221,9 +249,6 @@ drive-alone k s (Is p) Root e h = split (isDisk p) (λ t. absurd (false≢true (
 drive-alone k s (Is p) Implied e h = split (isDisk p) (λ t. absurd (false≢true (rw t at h))) (λ t. absurd (false≢true (rw t at h)))
 drive-alone k s (Is p) Lone e h = split (isDisk p) (λ t. absurd (false≢true (rw t at h))) (λ t. absurd (false≢true (rw t at h)))
 
-dot-inside : (k : Seps) (s : List ℕ) (i : ℕ) → dotAt k s i ≡ true → i < length s
-dot-inside k s i h = split (ltb i (length s)) (λ e. ltb-true i (length s) e) (λ e. absurd (false≢true (dot-past k s i (ltb-false i (length s) e) ∙ h)))
-
 module _ (k : Seps) (s : List ℕ) (h : Start) (o : OpenAt k s h) where
   pub ends-at : endOr (nthBackOf (headList h) 0) ≡ h .at
   unfolding headList startOf
@@ -254,66 +279,96 @@ module _ (k : Seps) (s : List ℕ) (h : Start) (o : OpenAt k s h) where
 
   -- a list whose body ends in p: the head comes before it, and a dot behind a drive does not count
   module _ (e : ℕ) (w : List Element) (p : Element) (t : within (isSep (h .seps)) (dots (h .seps)) s (h .at) e ≡ w ++ (p ∷ [])) where
-    pub parted : leftOf h s e ≡ (headList h ++ w) ++ (p ∷ [])
-    unfolding leftOf
+    pub parted : listTo h s e ≡ (headList h ++ w) ++ (p ∷ [])
+    unfolding listTo
     parted = rw (t, append-assoc)
 
-    later : dotted h s ≡ true → (length (leftOf h s e) ≡ 0 + 1 → ⊥)
+    later : dotted h s ≡ true → (length (listTo h s e) ≡ 0 + 1 → ⊥)
     later y = λ z. omega (arith, alone y, ap length parted, length-append (headList h ++ w) (p ∷ []), length-append (headList h) w)
 
-    pub cut-last : cutOf (dotted h s) (leftOf h s e) 0 ≡ p .start + p .len
+    pub cut-last : cutOf (dotted h s) (listTo h s e) 0 ≡ p .start + p .len
     unfolding cutOf
     cut-last =
-        rw (back-last (leftOf h s e) (headList h ++ w) p parted)
+        rw (back-last (listTo h s e) (headList h ++ w) p parted)
         (split (dotted h s)
-        (λ y. rw (y, ne-eqb (length (leftOf h s e)) (0 + 1) (later y)) (omega arith))
+        (λ y. rw (y, ne-eqb (length (listTo h s e)) (0 + 1) (later y)) (omega arith))
         (λ y. rw y (omega arith)))
 
   -- `end_before`
   module _ (e : ℕ) (p : Piece) (f : LastAt (isSep (h .seps)) (dots (h .seps)) s (h .at) e p) where
-    pub before-none : p ≡ None → (r : ℕ) → CutAt (dotted h s) (headList h) s r → CutAt (dotted h s) (leftOf h s e) s r
-    unfolding leftOf
+    pub before-none : p ≡ None → (r : ℕ) → CutAt (dotted h s) (headList h) s r → CutAt (dotted h s) (listTo h s e) s r
+    unfolding listTo
     before-none g r c = rw (last-none f g, append-nil) c
 
     module _ (q : Part) (g : p ≡ Found q) where
       pub before-fits : Fits w64 (q .start + q .len)
       before-fits = let t = last-found f g in record { fits = omega arith }
 
-      pub before-part : CutAt (dotted h s) (leftOf h s e) s (q .start + q .len)
+      pub before-part : CutAt (dotted h s) (listTo h s e) s (q .start + q .len)
       before-part = let t = last-found f g in record { is = sym (cut-last e (within (isSep (h .seps)) (dots (h .seps)) s (h .at) (q .start)) (lift q) (t .is)); inside = omega arith }
 
   -- ---- `up`
-  pub whole-left : listOf k s ≡ leftOf h s (length s)
-  unfolding wholeOf bodyList leftOf within
+  pub whole-left : listOf k s ≡ listTo h s (length s)
+  unfolding wholeOf bodyList listTo within
   whole-left = sym (whole-list k s h o) ∙ rw (take-length s)
 
   pub dot-same : dotted (startOf k s) s ≡ dotted h s
   dot-same = rw (o .is)
 
-  up-from : (n e m : ℕ) → Steps (within (isSep (h .seps)) (dots (h .seps)) s (h .at) (length s)) n (within (isSep (h .seps)) (dots (h .seps)) s (h .at) e) m → upBy (dotted (startOf k s) s) (listOf k s) n ≡ upBy (dotted h s) (leftOf h s e) m
-  unfolding Steps leftOf
-  up-from n e m t = rw (dot-same, whole-left) (t (dotted h s) (headList h))
+  abbrev body : List Element
+  body = within (isSep (h .seps)) (dots (h .seps)) s (h .at) (length s)
 
-  up-head-from : (n m : ℕ) → Steps (within (isSep (h .seps)) (dots (h .seps)) s (h .at) (length s)) n [] m → upBy (dotted (startOf k s) s) (listOf k s) n ≡ upBy (dotted h s) (headList h) m
-  unfolding Steps leftOf
-  up-head-from n m t = rw (dot-same, whole-left) (t (dotted h s) (headList h) ∙ rw append-nil)
+  -- n steps back from the list are m steps back from a head and a body
+  up-whole : (n : ℕ) (x : Outcome View) → upBy (dotted h s) (headList h ++ body) n ≡ x → upBy (dotted (startOf k s) s) (listOf k s) n ≡ x
+  unfolding listTo
+  up-whole n x e = rw (dot-same, whole-left) e
 
-  module _ (n : ℕ) (c : Reached) (a : ClimbAt (isSep (h .seps)) (dots (h .seps)) s (h .at) n c) where
-    pub up-body : (e r : ℕ) → c ≡ Body e → CutAt (dotted h s) (leftOf h s e) s r → ViewAt (upBy (dotted (startOf k s) s) (listOf k s) n) s (seen 0 r)
-    unfolding upBy told guard climbs
-    up-body e r g t =
-        let m = rw g at (a .is) in
-        record { is = rw (t .is) (sym (ap (told refusedView) (up-from n e 0 (m .0)))); inside = omega (arith, t .inside) }
+  up-good : Goods (isSep (h .seps)) (dots (h .seps)) (take (length s) s) body
+  unfolding within
+  up-good = from-good (isSep (h .seps)) (dots (h .seps)) (take (length s) s) (h .at)
 
-    pub up-head : (m : ℕ) (r : View) → c ≡ Head m → r ≡ told refusedView (headUp (h .dir) m) → ViewAt (upBy (dotted (startOf k s) s) (listOf k s) n) s r
-    up-head m r g e =
-        let t = rw g at (a .is) in
-        let y : m ≡ suc (m - 1) = omega (arith, t .1) in
-        let u : upBy (dotted h s) (headList h) m ≡ headUp (h .dir) m = rw y (head-alone k s h o (dotted h s) (m - 1)) in
-        record {
-          is = e ∙ sym (ap (told refusedView) (up-head-from n m (t .0) ∙ u));
-          inside = rw e (head-short (h .dir) m s);
-        }
+  up-leaves : (f : ℕ) → f < length body → leaves (nthBackOf body f) ≡ true
+  up-leaves = body-leaves (isSep (h .seps)) (dots (h .seps)) (take (length s) s) body up-good
+
+  module _ (n : ℕ) (c : Back) (a : BackAt body n c) where
+    module _ (q : Part) (g : c ≡ At q) where
+      up-at : Here (lift q) ≡ nthBackOf body n
+      up-at = rw g at a
+
+      up-in : n < length body
+      up-in = leaves-in body n (rw (← up-at) (kind-leaves (q .kind)))
+
+      up-end : q .start + q .len ≤ length s
+      up-end =
+          let g = good-nth (isSep (h .seps)) (dots (h .seps)) (take (length s) s) body (length body - 1 - n) (lift q) up-good (sym (back-nth body n up-in) ∙ sym up-at) in
+          omega (arith, g .inside, length-take-le (length s) s (omega arith))
+
+      pub up-fits : length s * 1 < 2 ^ 63 → Fits w64 (q .start + q .len)
+      up-fits w = record { fits = omega (arith, up-end) }
+
+      pub up-part : ViewAt (upBy (dotted (startOf k s) s) (listOf k s) n) s (seen 0 (q .start + q .len))
+      unfolding told
+      up-part =
+          record {
+            is = sym (ap (told refusedView) (up-whole n _ (up-inside (headList h) body up-leaves (dotted h s) n (lift q) up-in alone up-at)));
+            inside = omega (arith, up-end);
+          }
+
+    pub up-left : (m : ℕ) (r : View) → c ≡ Left m → ViewAt (upBy (dotted h s) (headList h) m) s r → ViewAt (upBy (dotted (startOf k s) s) (listOf k s) n) s r
+    up-left m r g t =
+        let e : length body + m ≡ n = rw g at a in
+        rw (up-whole n (upBy (dotted h s) (headList h) m) (rw (← e) (up-over (headList h) body up-leaves (dotted h s) m))) t
+
+  -- `head_left`
+  pub left-none : (m r : ℕ) → m ≡ 0 → CutAt (dotted h s) (headList h) s r → ViewAt (upBy (dotted h s) (headList h) m) s (seen 0 r)
+  unfolding upBy told guard climbs
+  left-none m r z t = rw z (record { is = rw (t .is); inside = omega (arith, t .inside) })
+
+  pub left-some : (m : ℕ) (r : View) → (m ≡ 0 → ⊥) → r ≡ told refusedView (headUp (h .dir) m) → ViewAt (upBy (dotted h s) (headList h) m) s r
+  left-some m r z e =
+      let y : m ≡ suc (m - 1) = omega arith in
+      let u : upBy (dotted h s) (headList h) m ≡ headUp (h .dir) m = rw y (head-alone k s h o (dotted h s) (m - 1)) in
+      record { is = e ∙ sym (ap (told refusedView) u); inside = rw e (head-short (h .dir) m s) }
 
 -- what remains is the rest after so many back steps
 module _ (l : List Element) (b : ℕ) where
@@ -348,39 +403,23 @@ module _ (l : List Element) (b : ℕ) where
 
 -- `parent`, `ancestor`
 module _ (k : Seps) (s : List ℕ) (r : View) where
-  pub parent-is : ViewAt (upBy (dotted (startOf k s) s) (listOf k s) 1) s r → ViewAt (parentOf k s) s r
+  parent-is : ViewAt (upBy (dotted (startOf k s) s) (listOf k s) 1) s r → ViewAt (parentOf k s) s r
   unfolding parentOf restBack climbs
   parent-is a = rw (up-rest (listOf k s) 1 (dotted (startOf k s) s)) at a
-
-  module _ (h : Start) (o : OpenAt k s h) (p : Piece) (f : LastAt (isSep (h .seps)) (dots (h .seps)) s (h .at) (length s) p) where
-    abbrev body : List Element
-    body = within (isSep (h .seps)) (dots (h .seps)) s (h .at) (length s)
-
-    pub parent-head : p ≡ None → r ≡ told refusedView (headUp (h .dir) 1) → ViewAt (parentOf k s) s r
-    parent-head g e = parent-is (up-head k s h o 1 (Head 1) (climb-head (isSep (h .seps)) (dots (h .seps)) s (h .at) (length s) 1 1 (steps-start body 1) p f (omega arith) g) 1 r refl e)
 
   module _ (n : ℕ) where
     pub ancestor-up : (n ≡ 0 → ⊥) → ViewAt (upBy (dotted (startOf k s) s) (listOf k s) n) s r → ViewAt (ancestorOf n k s) s r
     unfolding ancestorOf restBack
     ancestor-up h a = rw (ne-eqb n 0 h) (rw (up-rest (listOf k s) n (dotted (startOf k s) s)) at a)
 
-pub parent-part : (k : Seps) (s : List ℕ) (h : Start) (o : OpenAt k s h) (p : Piece) (f : LastAt (isSep (h .seps)) (dots (h .seps)) s (h .at) (length s) p) (q : Part) (n : ℕ) → p ≡ Found q → CutAt (dotted h s) (leftOf h s (q .start)) s n → ViewAt (parentOf k s) s (seen 0 n)
-parent-part k s h o p f q n g t =
-    let sep = isSep (h .seps) in
-    let v = dots (h .seps) in
-    let on = climb-on sep v s (h .at) (length s) 1 1 (steps-start (within sep v s (h .at) (length s)) 1) p f (omega arith) q g in
-    parent-is k s (seen 0 n) (up-body k s h o 1 (Body (q .start)) (climb-body sep v s (h .at) (q .start) 1 0 on (omega arith) (omega (arith, last-found f g .high))) (q .start) n refl t)
-
 pub ancestor-whole : (k : Seps) (s : List ℕ) (n : ℕ) → n ≡ 0 → ViewAt (ancestorOf n k s) s (seen 0 (length s))
 unfolding ancestorOf told
 ancestor-whole k s n h = record { is = rw h; inside = omega arith }
 
-pub ruleset climbing = (back-inside, steps-start, climb-body, climb-head, climb-on, climb-in, head-fits, head-dot, head-plain, before-none, before-fits, before-part, up-fixed, up-lone, up-long, up-body, up-head, parent-head, parent-part, ancestor-up, ancestor-whole)
-
 -- ---- `name_part`
 
 -- no element of a head is a name
-head-unnamed : (p : Parsed) (d : Dir) (e : ℕ) → named (nthBackOf (prefixPart p e ++ dirPart d e) 0) ≡ Missing
+head-unnamed : (p : Parsed) (d : Dir) (e : ℕ) → ifNormal (nthBackOf (prefixPart p e ++ dirPart d e) 0) ≡ Missing
 unfolding nthBackOf nthOf
 head-unnamed Nothing Bare e = refl
 head-unnamed Nothing Root e = refl
@@ -398,33 +437,51 @@ kind-named Name = refl
 
 module _ (k : Seps) (s : List ℕ) (h : Start) (o : OpenAt k s h) (p : Piece) (f : LastAt (isSep (h .seps)) (dots (h .seps)) s (h .at) (length s) p) where
   none-named : p ≡ None → NameAt k s None
-  unfolding lastName leftOf headList
+  unfolding lastName listTo headList
   none-named g = record { is = rw (whole-left k s h o, last-none f g, append-nil) (sym (head-unnamed (h .prefix) (h .dir) (h .end))); spans = tt }
 
-  module _ (q : Part) (g : p ≡ Found q) (b : Bool) (n : b ≡ isName (q .kind)) where
+  -- `parent`
+  pub parent-head : (r : View) → p ≡ None → r ≡ told refusedView (headUp (h .dir) 1) → ViewAt (parentOf k s) s r
+  unfolding listTo
+  parent-head r g e =
+      let l : listOf k s ≡ headList h = whole-left k s h o ∙ rw (last-none f g, append-nil) in
+      parent-is k s r (rw (dot-same k s h o, l) (left-some k s h o 1 r (λ z. omega arith) e))
+
+  module _ (q : Part) (g : p ≡ Found q) where
     the-last : nthBackOf (listOf k s) 0 ≡ Here (lift q)
-    the-last = rw (whole-left k s h o) (back-last (leftOf h s (length s)) (headList h ++ within (isSep (h .seps)) (dots (h .seps)) s (h .at) (q .start)) (lift q) (parted k s h o (length s) (within (isSep (h .seps)) (dots (h .seps)) s (h .at) (q .start)) (lift q) (last-found f g .is)))
+    the-last = rw (whole-left k s h o) (back-last (listTo h s (length s)) (headList h ++ within (isSep (h .seps)) (dots (h .seps)) s (h .at) (q .start)) (lift q) (parted k s h o (length s) (within (isSep (h .seps)) (dots (h .seps)) s (h .at) (q .start)) (lift q) (last-found f g .is)))
 
-    is-named : b ≡ true → NameAt k s (Found q)
-    unfolding lastName
-    is-named y =
-        let t = last-found f g in
-        record { is = rw (the-last, kind-named (q .kind), ← n, y); spans = (omega arith, omega arith, omega arith, t .room) }
+    -- what stands before the last part is the rest after one step back
+    base-rest : (r : ℕ) → CutAt (dotted h s) (listTo h s (q .start)) s r → restBack k s 1 ≡ seen 0 r
+    unfolding restBack listTo
+    base-rest r t =
+        let w : List Element = within (isSep (h .seps)) (dots (h .seps)) s (h .at) (q .start) in
+        let l : listOf k s ≡ (headList h ++ w) ++ (lift q ∷ []) = whole-left k s h o ∙ parted k s h o (length s) w (lift q) (last-found f g .is) in
+        cut-rest (listOf k s) 1 (dotted (startOf k s) s) ∙ rw (l, dot-same k s h o, t .is) (ap (seen 0) (cut-on (headList h ++ w) (lift q) (dotted h s) 0))
 
-    not-named : b ≡ false → NameAt k s None
-    unfolding lastName
-    not-named y = record { is = rw (the-last, kind-named (q .kind), ← n, y); spans = tt }
-
-    -- `base_len`
-    pub base-name : (r : ℕ) → b ≡ true → CutAt (dotted h s) (leftOf h s (q .start)) s r → BaseAt k s r
+    pub parent-part : (r : ℕ) → CutAt (dotted h s) (listTo h s (q .start)) s r → ViewAt (parentOf k s) s (seen 0 r)
     unfolding parentOf told guard
-    base-name r y t =
-        let e : lastName k s ≡ Here (lift q) = sym (is-named y .is) in
-        let v : seen 0 r ≡ restBack k s 1 = rw (the-last, kind-leaves (q .kind)) at (parent-part k s h o p f q r g t .is) in
-        record { is = rw (e, ← v); inside = t .inside }
+    parent-part r t = record { is = rw (the-last, kind-leaves (q .kind), base-rest r t); inside = omega (arith, t .inside) }
 
-    pub base-not : b ≡ false → BaseAt k s (length s)
-    base-not y = let e : lastName k s ≡ Missing = sym (not-named y .is) in record { is = rw e; inside = omega arith }
+    module _ (b : Bool) (n : b ≡ isName (q .kind)) where
+      is-named : b ≡ true → NameAt k s (Found q)
+      unfolding lastName
+      is-named y =
+          let t = last-found f g in
+          record { is = rw (the-last, kind-named (q .kind), ← n, y); spans = (omega arith, omega arith, omega arith, t .room) }
+
+      not-named : b ≡ false → NameAt k s None
+      unfolding lastName
+      not-named y = record { is = rw (the-last, kind-named (q .kind), ← n, y); spans = tt }
+
+      -- `base_len`
+      pub base-name : (r : ℕ) → b ≡ true → CutAt (dotted h s) (listTo h s (q .start)) s r → BaseAt k s r
+      base-name r y t =
+          let e : lastName k s ≡ Here (lift q) = sym (is-named y .is) in
+          record { is = rw (e, base-rest r t); inside = t .inside }
+
+      pub base-not : b ≡ false → BaseAt k s (length s)
+      base-not y = let e : lastName k s ≡ Missing = sym (not-named y .is) in record { is = rw e; inside = omega arith }
 
   pub base-none : p ≡ None → BaseAt k s (length s)
   base-none g = let e : lastName k s ≡ Missing = sym (none-named g .is) in record { is = rw e; inside = omega arith }
@@ -561,3 +618,5 @@ module _ (k : Seps) (s : List ℕ) (p : Piece) (a : NameAt k s p) (q : Part) (g 
           record { is = rw (of-name extensionSeen, some s q d t z, n) (rw (place s q d t)); inside = omega (arith, name-ends, dot-before) }
 
 pub ruleset naming = (name-none, name-is, name-not, dot-here, dot-more, dot-out, name-absent, name-fits, name-ends, name-seen, stem-is, stem-whole, extension-none, dot-before, dot-fits, stem-dot, extension-dot, base-name, base-not, base-none)
+
+pub ruleset climbing = (back-inside, head-fits, head-dot, head-plain, before-none, before-fits, before-part, up-fixed, up-lone, up-long, up-fits, up-part, up-left, left-none, left-some, parent-head, parent-part, ancestor-up, ancestor-whole)

@@ -1,8 +1,8 @@
 -- What the leaves promise to their callers beside the equation, and what their loops keep. Nothing here has to be believed.
 use Prim.Native.Nat.{ℕ, _+_, _-_, _<_, _≤_}
 use mathlib.Core.Path.{_≡_}
-use mathlib.Core.List.{List, [], _++_}
-use mathlib.Core.Bool.{Bool, true, false, cond}
+use mathlib.Core.List.{List, _++_}
+use mathlib.Core.Bool.{Bool, cond}
 use lib.ListN.{length, take, drop}
 use lib.Dec.{eqb}
 use Rattle.octets.specs.Class.{isSep}
@@ -12,8 +12,6 @@ use Rattle.answers.specs.declared.View.{View}
 use Rattle.answers.specs.Reply.{refusedView, seen}
 use Rattle.answers.specs.Outcome.{Outcome, refuse, result, told, present}
 use Rattle.parts.specs.declared.Element.{Element}
-use Rattle.parts.specs.declared.Kind.{Kind}
-use Rattle.parts.specs.declared.Kind.the-variants.{Dot, DotDot, Name}
 use Rattle.parts.specs.declared.Item.{Item}
 use Rattle.parts.specs.declared.Item.the-variants.{Missing, Here}
 use Rattle.parts.specs.declared.Part.{Part}
@@ -25,8 +23,6 @@ use Rattle.components.specs.declared.Dir.{Dir}
 use Rattle.components.specs.declared.Dir.the-variants.{Bare, Root, Implied, Dot as Lone}
 use Rattle.components.specs.declared.Start.{Start}
 use Rattle.components.specs.List.{headList}
-use Rattle.views.specs.declared.Reached.{Reached}
-use Rattle.views.specs.declared.Reached.the-variants.{Body, Head}
 use Rattle.views.specs.Views.{climbs, restBack, lastName, lastDot, stemSeen}
 
 -- the right end of what remains after b steps back from l, where dot says whether a dot that is no component stands behind a drive
@@ -47,19 +43,8 @@ pub record CutAt (dot : Bool) (l : List Element) (s : List ℕ) (r : ℕ) : Type
   pub inside : r ≤ length s
 
 -- the list of a start, of the body the bytes up to e
-unfoldable pub leftOf : Start → List ℕ → ℕ → List Element
-leftOf h s e = headList h ++ within (isSep (h .seps)) (dots (h .seps)) s (h .at) e
-
--- behind any head, n steps back from l are m steps back from r
-unfoldable pub Steps : List Element → ℕ → List Element → ℕ → Type 0
-Steps l n r m = (dot : Bool) (g : List Element) → upBy dot (g ++ l) n ≡ upBy dot (g ++ r) m
-
-abbrev pub Climbed : (ℕ → Bool) → Bool → List ℕ → ℕ → ℕ → Reached → Type 0
-Climbed sep v s lo n (Body e) = Steps (within sep v s lo (length s)) n (within sep v s lo e) 0 × (e ≤ length s)
-Climbed sep v s lo n (Head m) = Steps (within sep v s lo (length s)) n [] m × (0 < m)
-
-pub record ClimbAt (sep : ℕ → Bool) (v : Bool) (s : List ℕ) (lo n : ℕ) (r : Reached) : Type 0 where
-  pub is : Climbed sep v s lo n r
+unfoldable pub listTo : Start → List ℕ → ℕ → List Element
+listTo h s e = headList h ++ within (isSep (h .seps)) (dots (h .seps)) s (h .at) e
 
 -- what remains of a head alone after n steps back, n not 0
 abbrev pub headUp : Dir → ℕ → Outcome View
@@ -67,11 +52,6 @@ headUp Bare n = refuse Absent
 headUp Root n = refuse Absent
 headUp Implied n = refuse Absent
 headUp Lone n = cond (eqb n 1) (result (seen 0 0)) (refuse Absent)
-
-abbrev pub isName : Kind → Bool
-isName Dot = false
-isName DotDot = false
-isName Name = true
 
 -- r is the file name, and lies in the path
 pub record NameAt (k : Seps) (s : List ℕ) (r : Piece) : Type 0 where

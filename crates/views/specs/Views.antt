@@ -58,12 +58,12 @@ isNormal CurDir = false
 isNormal ParentDir = false
 isNormal Normal = true
 
-abbrev pub named : Item → Item
-named Missing = Missing
-named (Here p) = cond (isNormal (p .component)) (Here p) Missing
+abbrev pub ifNormal : Item → Item
+ifNormal Missing = Missing
+ifNormal (Here p) = cond (isNormal (p .component)) (Here p) Missing
 
 unfoldable pub lastName : Seps → List ℕ → Item
-lastName k s = named (nthBackOf (listOf k s) 0)
+lastName k s = ifNormal (nthBackOf (listOf k s) 0)
 
 -- w has a dot
 unfoldable pub hasDot : List ℕ → Bool
@@ -91,7 +91,7 @@ unfoldable pub wholeSeen : List ℕ → Element → Outcome View
 wholeSeen s p = result (seen (p .start) (p .len))
 
 -- "Split at its last dot; if there is no dot, or nothing before it, all is stem and there is no extension. `a.` has the
--- extension "" (present, empty)."
+-- extension .. (present, empty)."
 unfoldable pub stemSeen : List ℕ → Element → Outcome View
 stemSeen s p = result (seen (p .start) (cond (eqb (dotOf s p) 0) (p .len) (dotOf s p)))
 

@@ -5,27 +5,19 @@ use answers::View;
 use components::Dir;
 use components::Start;
 use octets::Seps;
-use parts::Kind;
+use parts::Back;
 use parts::Part;
 use parts::Piece;
 ghost use mathlib.Core.Path.{_≡_};
 ghost use Prim.Native.Nat.{_+_, _≤_};
 ghost use lib.ListN.{length};
-ghost use Rattle.octets.specs.Class.{isSep};
 ghost use Rattle.answers.specs.Outcome.{told};
 ghost use Rattle.answers.specs.Reply.{refusedView};
-ghost use Rattle.parts.specs.Body.{dots};
 ghost use Rattle.components.specs.List.{startOf, headList, listOf};
 ghost use Rattle.cursors.specs.Rest.{dotted};
 ghost use Rattle.components.specs.Leaves.{OpenAt};
 ghost use Rattle.views.specs.Views.{parentOf, ancestorOf, fileNameOf, fileStemOf, extensionOf};
-ghost use Rattle.views.specs.Leaves.{upBy, ViewAt, CutAt, leftOf, ClimbAt, headUp, isName, NameAt, BaseAt, DotAt, StemAt};
-
-// Where steps back through a body came to: before place e, or at its beginning with that many steps still to go.
-pub enum Reached {
-    Body(usize),
-    Head(usize),
-}
+ghost use Rattle.views.specs.Leaves.{upBy, ViewAt, CutAt, listTo, headUp, NameAt, BaseAt, DotAt, StemAt};
 
 // Where the head ends, with a dot that is no component behind a drive, as in `C:.`.
 fn head_end(k: Seps, h: Start, s: &[u8]) -> usize
@@ -42,7 +34,7 @@ fn head_end(k: Seps, h: Start, s: &[u8]) -> usize
 // Where the last component before place e ends; 0 if there is none.
 fn end_before(k: Seps, h: Start, s: &[u8], e: usize) -> usize
     requires { ⌜ OpenAt k (now s) h × (e ≤ length (now s)) ⌝ }
-    ensures { λ r. ⌜ CutAt (dotted h (now (s .entry))) (leftOf h (now (s .entry)) e) (now (s .entry)) r ⌝ }
+    ensures { λ r. ⌜ CutAt (dotted h (now (s .entry))) (listTo h (now (s .entry)) e) (now (s .entry)) r ⌝ }
 {
     let inner = h.seps;
     let at = h.at;
@@ -51,27 +43,6 @@ fn end_before(k: Seps, h: Start, s: &[u8], e: usize) -> usize
         Piece::Nothing => head_end(k, h, s),
         Piece::Found(q) => q.start + q.len,
     }
-}
-
-// n steps back through the body that starts at `at`.
-fn climb(k: Seps, s: &[u8], at: usize, n: usize) -> Reached
-    ensures { λ r. ⌜ ClimbAt (isSep k) (dots k) (now (s .entry)) at n r ⌝ }
-{
-    let mut e = s.len();
-    let mut left = n;
-    while 0 < left {
-        let p = parts::last(k, s, at, e);
-        match p {
-            Piece::Nothing => {
-                return Reached::Head(left);
-            }
-            Piece::Found(q) => {
-                e = q.start;
-                left -= 1;
-            }
-        }
-    }
-    Reached::Body(e)
 }
 
 // What remains of a head alone after steps back: a lone dot can be taken, a prefix and a root cannot.
@@ -95,27 +66,38 @@ fn head_up(d: Dir, left: usize) -> View
     }
 }
 
-// What remains after n steps back.
+// What remains of the head h after `left` steps back, which may be none.
+fn head_left(k: Seps, h: Start, s: &[u8], left: usize) -> View
+    requires { ⌜ OpenAt k (now s) h ⌝ }
+    ensures { λ r. ⌜ ViewAt (upBy (dotted h (now (s .entry))) (headList h) left) (now (s .entry)) r ⌝ }
+{
+    if left == 0 {
+        let len = head_end(k, h, s);
+        return View {
+            reply: Reply::Done,
+            start: 0,
+            len,
+        };
+    }
+    let d = h.dir;
+    head_up(d, left)
+}
+
+// What remains after n steps back: all up to the end of the part that has n behind it, or what the body leaves of the head.
 fn up(k: Seps, s: &[u8], n: usize) -> View
     ensures { λ r. ⌜ ViewAt (upBy (dotted (startOf k (now (s .entry))) (now (s .entry))) (listOf k (now (s .entry))) n) (now (s .entry)) r ⌝ }
 {
     let h = components::begin(k, s);
     let inner = h.seps;
     let at = h.at;
-    let c = climb(inner, s, at, n);
+    let c = parts::walk_back(inner, s, at, s.len(), n);
     match c {
-        Reached::Body(e) => {
-            let len = end_before(k, h, s, e);
-            View {
-                reply: Reply::Done,
-                start: 0,
-                len,
-            }
-        }
-        Reached::Head(left) => {
-            let d = h.dir;
-            head_up(d, left)
-        }
+        Back::At(q) => View {
+            reply: Reply::Done,
+            start: 0,
+            len: q.start + q.len,
+        },
+        Back::Left(left) => head_left(k, h, s, left),
     }
 }
 
@@ -156,16 +138,6 @@ pub fn ancestor(k: Seps, s: &[u8], n: usize) -> View
     up(k, s, n)
 }
 
-fn is_name(k: Kind) -> bool
-    ensures { λ r. ⌜ r ≡ isName k ⌝ }
-{
-    match k {
-        Kind::Dot => false,
-        Kind::DotDot => false,
-        Kind::Name => true,
-    }
-}
-
 // The last part, if it is a name. No head is one, so the body alone is asked.
 pub fn name_part(k: Seps, s: &[u8]) -> Piece
     ensures { λ r. ⌜ NameAt k (now (s .entry)) r ⌝ }
@@ -178,7 +150,7 @@ pub fn name_part(k: Seps, s: &[u8]) -> Piece
         Piece::Nothing => Piece::Nothing,
         Piece::Found(q) => {
             let kind = q.kind;
-            if is_name(kind) {
+            if parts::is_name(kind) {
                 return Piece::Found(q);
             }
             Piece::Nothing
@@ -198,7 +170,7 @@ pub fn base_len(k: Seps, s: &[u8]) -> usize
         Piece::Nothing => s.len(),
         Piece::Found(q) => {
             let kind = q.kind;
-            if is_name(kind) {
+            if parts::is_name(kind) {
                 return end_before(k, h, s, q.start);
             }
             s.len()

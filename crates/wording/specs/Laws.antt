@@ -1,31 +1,17 @@
--- Laws of the words and of the lines: one a way through each function.
+-- Laws of the lines: one a way through each function.
 use Prim.Native.Nat.{ℕ, zero, suc, _+_, _-_, _*_, _/_, _%_, _<_, _≤_}
 use native.Mathlib.Omega.{arith}
 use native.Mathlib.Numerals.{add-one}
 use mathlib.Core.Path.{_≡_, refl, sym, ap, _∙_}
 use mathlib.Core.List.{List, [], _∷_, _++_, append-assoc, append-nil}
-use mathlib.Core.Bool.{Bool, true, false}
 use lib.ListN.{length, take, drop, set, getD, length-append, length-set}
 use lib.Seq.{length-take-le, take-suc, take-all}
 use borrow.Author.Tests.{eq-eqb, ne-eqb, lt-ltb, le-ltb}
 use Rattle.answers.specs.Written.{over}
 use Rattle.buffers.specs.Laws.{over-take, over-set, over-over, take-over, length-over}
-use Rattle.protocol.specs.Words.{equal}
-use Rattle.wording.specs.declared.commands.Command.{Command}
-use Rattle.wording.specs.Commands.{named}
 use Rattle.wording.specs.Lines.{Put, Fronted, spaces, cellOf, columnOf, glyphOf, hexOf, shownOf, escapedOf, columnsOf, lineOf, prefixWords, kindWords}
 use Rattle.prefixes.specs.declared.Prefix.{Prefix}
 use Rattle.parts.specs.declared.Component.{Component}
-
--- the word is this one, or the answer is that of the others
-module _ {A : Type 0} (w x : List ℕ) (v others : A) (t : Bool) (e : t ≡ equal w x) where
-  pub word-hit : t ≡ true → v ≡ named w x v others
-  unfolding named
-  word-hit y = rw (← e, y)
-
-  pub word-miss : (u : A) → t ≡ false → u ≡ others → u ≡ named w x v others
-  unfolding named
-  word-miss u n r = rw (← e, n) r
 
 -- what is put, and then put behind it
 length-put : (b w : List ℕ) (n : ℕ) → n + length w ≤ length b → length (over (take n b ++ w) b) ≡ length b
@@ -206,8 +192,6 @@ pub line-front :
     → Fronted (lineOf c start text) b r three
 unfolding lineOf
 line-front b one two three text c start n m r f p q = front-more b two three _ _ m r (front-more b one two _ _ n m f p) q
-
-pub ruleset words = (word-hit, word-miss)
 
 pub ruleset cells = (cell-blank, cell-digit, glyph-digit, glyph-letter)
 

@@ -54,7 +54,7 @@ unfoldable pub escapedOf : List ℕ → List ℕ
 escapedOf [] = []
 escapedOf (b ∷ s) = shownOf b ++ escapedOf s
 
--- "prefix, verbatim", "prefix, verbatim UNC", "prefix, verbatim disk C", "prefix, device", "prefix, UNC", "prefix, disk C"
+-- `prefix, verbatim`, `prefix, verbatim UNC`, `prefix, verbatim disk C`, `prefix, device`, `prefix, UNC`, `prefix, disk C`
 abbrev pub prefixWords : Prefix → List ℕ
 prefixWords (Verbatim n) = 112 ∷ 114 ∷ 101 ∷ 102 ∷ 105 ∷ 120 ∷ 44 ∷ 32 ∷ 118 ∷ 101 ∷ 114 ∷ 98 ∷ 97 ∷ 116 ∷ 105 ∷ 109 ∷ []
 prefixWords (VerbatimUnc n) = 112 ∷ 114 ∷ 101 ∷ 102 ∷ 105 ∷ 120 ∷ 44 ∷ 32 ∷ 118 ∷ 101 ∷ 114 ∷ 98 ∷ 97 ∷ 116 ∷ 105 ∷ 109 ∷ 32 ∷ 85 ∷ 78 ∷ 67 ∷ []
@@ -63,7 +63,7 @@ prefixWords (DeviceNs n) = 112 ∷ 114 ∷ 101 ∷ 102 ∷ 105 ∷ 120 ∷ 44 �
 prefixWords (Unc n) = 112 ∷ 114 ∷ 101 ∷ 102 ∷ 105 ∷ 120 ∷ 44 ∷ 32 ∷ 85 ∷ 78 ∷ 67 ∷ []
 prefixWords (Disk d) = (112 ∷ 114 ∷ 101 ∷ 102 ∷ 105 ∷ 120 ∷ 44 ∷ 32 ∷ 100 ∷ 105 ∷ 115 ∷ 107 ∷ 32 ∷ []) ++ (d ∷ [])
 
--- "root", "current directory", "parent directory", "name"
+-- `root`, `current directory`, `parent directory`, `name`
 abbrev pub kindWords : Component → List ℕ
 kindWords (Prefixed p) = prefixWords p
 kindWords RootDir = 114 ∷ 111 ∷ 111 ∷ 116 ∷ []

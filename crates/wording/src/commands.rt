@@ -1,7 +1,7 @@
 // The words of the command line: which command it is, how many words go with it, which mode.
 use protocol::same;
 ghost use mathlib.Core.Path.{_≡_};
-ghost use Rattle.wording.specs.Commands.{commandOf, pairOf, modeOf};
+ghost use Rattle.wording.specs.Commands.{commandOf, pairCommandOf, modeOf};
 
 pub enum Command {
     Unknown,
@@ -15,7 +15,7 @@ pub enum Command {
 }
 
 fn pairing(w: &[u8]) -> Command
-    ensures { λ r. ⌜ r ≡ pairOf (now (w .entry)) ⌝ }
+    ensures { λ r. ⌜ r ≡ pairCommandOf (now (w .entry)) ⌝ }
 {
     if same(w, b"join") {
         return Command::Join;

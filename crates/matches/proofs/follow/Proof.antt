@@ -24,7 +24,4 @@ follow-spec =
     (λ c κs. search (needs, follows, headings))
     (λ c. search (needs, follows, headings))
     (λ c κs. search (needs, follows, headings))
-    (λ c. search (needs, follows, headings))
-    (λ c. search (needs, follows, headings))
-    (λ c. search (needs, follows, headings))
     (λ c. search (needs, follows, headings)))

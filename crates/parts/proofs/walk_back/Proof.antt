@@ -3,13 +3,13 @@ use Prim.Native.Nat.{_≤_}
 use lib.ListN.{length}
 use Rattle.octets.specs.Class.{isSep}
 use Rattle.parts.specs.Body.{dots}
-use Rattle.parts.specs.Steps.{within, Behind}
+use Rattle.parts.specs.Steps.{within, GoesBack}
 use Rattle.parts.specs.Laws.{walks}
 use Rattle.parts.proofs.walk_back.Statement.{statement}
 use Rattle.parts.proofs.walk_back.Tie as tie
 
 abbrev Inv : tie.InvT-loop
-Inv k s lo hi b e₀ left₀ e left = (e ≤ length s) × Behind (within (isSep k) (dots k) s lo hi) b (within (isSep k) (dots k) s lo e) left
+Inv k s lo hi b e₀ left₀ e left = (e ≤ length s) × GoesBack (within (isSep k) (dots k) s lo hi) b (within (isSep k) (dots k) s lo e) left
 
 abbrev μ : tie.MeasureT-loop
 μ k s lo hi b e₀ left₀ e left = e

@@ -10,7 +10,7 @@ up-spec =
     (λ c κs. search (needs, climbing))
     (λ c κs. search (needs, climbing))
     (λ c. search (needs, climbing))
-    (λ c κs. search (needs, climbing))
+    (λ c. search (needs, climbing))
     (λ c. search (needs, climbing))
     (λ c κs. search (needs, climbing))
     (λ c. search (needs, climbing))

@@ -3,13 +3,13 @@ use borrow.Author.Needs.{needs}
 use Prim.Native.Nat.{_-_, _+_, _≤_}
 use mathlib.Core.Path.{_≡_}
 use lib.ListN.{length, take}
-use Rattle.protocol.specs.Digits.{pairsOf, pairsAt, behind}
+use Rattle.protocol.specs.Digits.{pairsOf, pairsAt, prepended}
 use Rattle.protocol.specs.Laws.{pairs}
 use Rattle.protocol.proofs.digits.pairs.Statement.{statement}
 use Rattle.protocol.proofs.digits.pairs.Tie as tie
 
 abbrev Inv : tie.InvT-loop
-Inv w out₀ i₀ k₀ out i k = (i ≡ k + k) × (i ≤ length w) × (length out ≡ length out₀) × (pairsOf w ≡ behind (take k out) (pairsAt w i))
+Inv w out₀ i₀ k₀ out i k = (i ≡ k + k) × (i ≤ length w) × (length out ≡ length out₀) × (pairsOf w ≡ prepended (take k out) (pairsAt w i))
 
 abbrev μ : tie.MeasureT-loop
 μ w out₀ i₀ k₀ out i k = length w - i

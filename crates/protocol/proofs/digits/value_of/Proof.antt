@@ -3,13 +3,13 @@ use borrow.Author.Needs.{needs}
 use Prim.Native.Nat.{_-_, _<_, _^_}
 use mathlib.Core.Path.{_≡_}
 use lib.ListN.{length}
-use Rattle.protocol.specs.Digits.{numberOf, readAt}
+use Rattle.protocol.specs.Digits.{numberIn, readAt}
 use Rattle.protocol.specs.Laws.{numbers}
 use Rattle.protocol.proofs.digits.value_of.Statement.{statement}
 use Rattle.protocol.proofs.digits.value_of.Tie as tie
 
 abbrev Inv : tie.InvT-loop
-Inv w v₀ i₀ v i = (v < 2 ^ 64) × (numberOf w ≡ readAt v w i)
+Inv w v₀ i₀ v i = (v < 2 ^ 64) × (numberIn w ≡ readAt v w i)
 
 abbrev μ : tie.MeasureT-loop
 μ w v₀ i₀ v i = length w - i

@@ -1,12 +1,12 @@
 -- `pairing` meets its contract: each word is this one, or the next is asked.
 use borrow.Author.Needs.{needs}
-use Rattle.protocol.specs.Verbs.{pairOf}
+use Rattle.protocol.specs.Verbs.{pairVerbOf}
 use Rattle.protocol.specs.Laws.{verbs}
 use Rattle.protocol.proofs.verbs.pairing.Statement.{statement}
 use Rattle.protocol.proofs.verbs.pairing.Tie as tie
 
 pub pairing-spec : {M : Type 1} → statement M
-unfolding pairOf
+unfolding pairVerbOf
 pairing-spec =
     tie.close
     (tie.spec

@@ -1,7 +1,7 @@
 -- `mode_of` meets its contract: each word is this one, or the next is asked.
 use borrow.Author.Needs.{needs}
 use Rattle.wording.specs.Commands.{modeOf}
-use Rattle.wording.specs.Laws.{words}
+use Rattle.protocol.specs.Laws.{verbs}
 use Rattle.wording.proofs.commands.mode_of.Statement.{statement}
 use Rattle.wording.proofs.commands.mode_of.Tie as tie
 
@@ -10,10 +10,10 @@ unfolding modeOf
 mode-of-spec =
     tie.close
     (tie.spec
-    (λ c. search (needs, words))
-    (λ c κs. search (needs, words))
-    (λ c. search (needs, words))
-    (λ c. search (needs, words))
-    (λ c κs. search (needs, words))
-    (λ c. search (needs, words))
-    (λ c. search (needs, words)))
+    (λ c. search (needs, verbs))
+    (λ c κs. search (needs, verbs))
+    (λ c. search (needs, verbs))
+    (λ c. search (needs, verbs))
+    (λ c κs. search (needs, verbs))
+    (λ c. search (needs, verbs))
+    (λ c. search (needs, verbs)))
