@@ -19,7 +19,7 @@ use Rattle.prefixes.specs.declared.Prefix.the-variants.{Verbatim, VerbatimUnc, 
 use Rattle.prefixes.specs.declared.Parsed.{Parsed}
 use Rattle.prefixes.specs.declared.Parsed.the-variants.{Nothing, Is}
 use Rattle.prefixes.specs.Prefix.{turned, begins, capital, drive, driveExact, namesOf, verbatimOf, uncOf, isVerbatim, deviceOf, prefixOf, prefixIn, endOfPrefix, hasPrefix, isDisk}
-use Rattle.prefixes.specs.Laws.{by-cond, drive-long, drive-disk, bare-none, end-within, drive-off}
+use Rattle.prefixes.specs.Laws.{by-cond, drive-long, drive-disk, bare-none, end-within, drive-told}
 use Rattle.parts.specs.declared.Component.the-variants.{Prefix as Prefixed, RootDir, CurDir}
 use Rattle.parts.specs.declared.Element.{Element}
 use Rattle.parts.specs.declared.Item.{Item}
@@ -187,10 +187,7 @@ no-begin (x ∷ s) h =
 pub windows-plain : (k : Seps) (s : List ℕ) (b c : Bool) → k ≡ Windows → b ≡ drive s → b ≡ false → c ≡ sepAt k s 0 → c ≡ false → prefixIn k s ≡ Nothing
 windows-plain k s b c w e f g h = rw w (bare-none s (sym e ∙ f) (no-begin s (rw w at (sym g ∙ h))))
 
-pub on-drive : (s : List ℕ) (b : Bool) → b ≡ drive s → b ≡ true → drive s ≡ true
-on-drive s b e f = sym e ∙ f
-
-pub ruleset heads = (drive-off, sep-in, sep-past, dot-past, dot-not, dot-end, dot-sep, seps-behind, dir-dot, dir-bare, dir-prefix, dir-root, dir-else, end-within, with-fits, with-is, parsed-small, parsed-open, plain-small, plain-open, drive-some, drive-small, drive-open, unix-plain, verbatim-plain, windows-plain, on-drive)
+pub ruleset heads = (drive-told, sep-in, sep-past, dot-past, dot-not, dot-end, dot-sep, seps-behind, dir-dot, dir-bare, dir-prefix, dir-root, dir-else, end-within, with-fits, with-is, parsed-small, parsed-open, plain-small, plain-open, drive-some, drive-small, drive-open, unix-plain, verbatim-plain, windows-plain)
 
 -- `body_in`
 module _ (k : Seps) (s : List ℕ) where
@@ -224,7 +221,7 @@ module _ (k : Seps) (s : List ℕ) where
     unfolding startOf dirOf
     drive-bare n = record { place = rw (on-disk k s w h, sym e ∙ n); by = rw (on-disk k s w h) }
 
-pub ruleset bodies = (begun-body, plain-rooted, plain-dotted, plain-bare, drive-rooted, drive-bare, unix-plain, verbatim-plain, windows-plain, on-drive)
+pub ruleset bodies = (begun-body, plain-rooted, plain-dotted, plain-bare, drive-rooted, drive-bare, unix-plain, verbatim-plain, windows-plain, drive-told)
 
 -- ---- the head's elements
 
@@ -493,7 +490,7 @@ module _ (k : Seps) (s : List ℕ) (r : Bool) where
         go Nothing i t = rw (rw w at i)
         go (Is q) i t = rw (rw w at i) (sym (other-has Windows s q (rw w at i) t))
 
-pub ruleset lists = (drive-off, item-bare, item-root, item-implied, item-dot, count-sum, count-head, head-dir, head-none, head-prefix, head-second, head-third, whole-head, whole-body, total-fits, total-is, back-at, back-left, head-back, head-out, element-is, element-back-is, total-of-list, on-drive, unix-root, verbatim-root, drive-root, other-root, unix-absolute, verbatim-absolute, drive-absolute, other-absolute)
+pub ruleset lists = (drive-told, item-bare, item-root, item-implied, item-dot, count-sum, count-head, head-dir, head-none, head-prefix, head-second, head-third, whole-head, whole-body, total-fits, total-is, back-at, back-left, head-back, head-out, element-is, element-back-is, total-of-list, unix-root, verbatim-root, drive-root, other-root, unix-absolute, verbatim-absolute, drive-absolute, other-absolute)
 
 -- ---- the list lies in the path, and has few elements
 

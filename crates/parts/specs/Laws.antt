@@ -603,7 +603,7 @@ module _ (sep : ℕ → Bool) where
     unfolding from
     from-good i = segment-good i (drop i s) _ refl (rest-good i (drop i s) refl)
 
-    -- so is each of them
+    -- an element of good ones is good
     pub good-nth : (l : List Element) (f : ℕ) (p : Element) → Goods sep v s l → nthOf l f ≡ Here p → Good sep v s p
     unfolding Goods nthOf
     good-nth [] f p u e = let z : _≡_ {A = ℕ} 0 1 = cc in absurd (omega arith)

@@ -16,7 +16,7 @@ use Rattle.prefixes.specs.declared.Prefix.the-variants.{Disk}
 use Rattle.prefixes.specs.declared.Parsed.{Parsed}
 use Rattle.prefixes.specs.declared.Parsed.the-variants.{Nothing, Is}
 use Rattle.prefixes.specs.Prefix.{capital, drive, prefixOf, prefixIn, lenOf}
-use Rattle.prefixes.specs.Laws.{drive-off, drive-long, drive-disk, len-small}
+use Rattle.prefixes.specs.Laws.{drive-told, drive-long, drive-disk, len-small}
 use Rattle.components.specs.List.{sepAt}
 use Rattle.components.specs.Laws.{windows-plain}
 use Rattle.paths.specs.declared.Prefixed.{Prefixed}
@@ -74,4 +74,4 @@ module _ (s : List ℕ) where
       pub found-small : length s * 1 < 2 ^ 63 → lenOf q < 2 ^ 63
       found-small w = len-small Windows s p q e f w
 
-pub ruleset calls = (prefix-mode, prefix-long, prefix-unix, prefix-back, prefix-windows, told-drive, first-byte, drive-off, told-bare, told-none, told-found, found-small)
+pub ruleset calls = (prefix-mode, prefix-long, prefix-unix, prefix-back, prefix-windows, told-drive, first-byte, drive-told, told-bare, told-none, told-found, found-small)

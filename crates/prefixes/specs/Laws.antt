@@ -340,8 +340,9 @@ module _ (s : List ℕ) where
     pub prefix-none : drive s ≡ false → q ≡ false → Nothing ≡ prefixOf s
     prefix-none d n = sym (bare-none s d (sym e ∙ n))
 
-  pub drive-off : (d : Bool) → d ≡ drive s → d ≡ false → drive s ≡ false
-  drive-off d g y = sym g ∙ y
+  -- what the test for a drive has told, for whoever asks for it
+  pub drive-told : (d c : Bool) → d ≡ drive s → d ≡ c → drive s ≡ c
+  drive-told d c g y = sym g ∙ y
 
 pub share-none : (n : ℕ) → n ≡ 0 → 0 ≡ shareLen n
 share-none n e = rw e

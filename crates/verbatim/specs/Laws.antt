@@ -56,7 +56,7 @@ module _ (k : Seps) (q : Kind) (c : ℕ) where
 
 pub ruleset sifts = (mend-unix, mend-windows, sift-dot, sift-up, sift-zero, sift-more)
 
--- ---- lists of values
+-- ---- lists of spellings
 
 pub spellings-append : (s : List ℕ) (l m : List Element) → spellingsOf s (l ++ m) ≡ spellingsOf s l ++ spellingsOf s m
 unfolding spellingsOf
@@ -208,9 +208,9 @@ module _ (k : Seps) (s : List ℕ) (lo e c : ℕ) (y : Piece) (f : LastAt (isSep
     unfolding bulk
     bulk-step = ap length (last-found f g .is) ∙ length-append (within (isSep k) (dots k) s lo (x .start)) (lift x ∷ [])
 
-    values-step : spellingsOf s (within (isSep k) (dots k) s lo e) ≡ spellingsOf s (within (isSep k) (dots k) s lo (x .start)) ++ (spellingOf s (lift x) ∷ [])
+    spellings-step : spellingsOf s (within (isSep k) (dots k) s lo e) ≡ spellingsOf s (within (isSep k) (dots k) s lo (x .start)) ++ (spellingOf s (lift x) ∷ [])
     unfolding spellingsOf
-    values-step = rw (last-found f g .is, spellings-append s (within (isSep k) (dots k) s lo (x .start)) (lift x ∷ []))
+    spellings-step = rw (last-found f g .is, spellings-append s (within (isSep k) (dots k) s lo (x .start)) (lift x ∷ []))
 
     pub piece : length (take (x .len) (drop (x .start) s)) ≡ x .len
     piece = let z = last-found f g in length-take-le (x .len) (drop (x .start) s) (omega (arith, length-drop (x .start) s))
@@ -218,11 +218,11 @@ module _ (k : Seps) (s : List ℕ) (lo e c : ℕ) (y : Piece) (f : LastAt (isSep
     module _ (o : Sift) (h : o ≡ siftOf k (componentOf (x .kind)) c) where
       text-step : textAt k s lo e c ≡ textAt k s lo (x .start) (leftBy o) ++ flat (keptBy o (spellingOf s (lift x)) [])
       unfolding textAt
-      text-step = rw (h, values-step, kept-last, flat-append)
+      text-step = rw (h, spellings-step, kept-last, flat-append)
 
       owed-step : owedAt k s lo e c ≡ owedAt k s lo (x .start) (leftBy o)
       unfolding owedAt
-      owed-step = rw (h, values-step, owed-last)
+      owed-step = rw (h, spellings-step, owed-last)
 
       pub text-keep : o ≡ Keep → textAt k s lo e c ≡ textAt k s lo (x .start) 0 ++ (92 ∷ take (x .len) (drop (x .start) s))
       unfolding flat

@@ -72,7 +72,7 @@ textAt k s lo hi c = flat (kept k c (spellingsOf s (within (isSep k) (dots k) s 
 abbrev pub stretchText : Seps → List ℕ → Stretch → List ℕ
 stretchText k s t = textAt k s (t .lo) (t .hi) (t .left)
 
--- what a loop over a span keeps at place e, with c names to go
+-- what a loop over a stretch keeps at place e, with c names to go
 pub record Reading (k : Seps) (s : List ℕ) (lo left e c : ℕ) : Type 0 where
   pub inside : e ≤ length s
   pub small : c + bulk k s lo e ≤ left + length s + 1

@@ -99,9 +99,9 @@ verb-dir (Disk d) h = absurd (false≢true h)
 abbrev rootValues : List ℕ → Dir → ℕ → List Spelling
 rootValues p d e = cond (rootsOf d) (record { component = RootDir; bytes = take (dirLen d) (drop e p) } ∷ []) []
 
-dir-values : (x : Prefix) (p : List ℕ) (e : ℕ) → verbatimKind x ≡ true → spellingsOf p (dirPart (dirOf Windows (Is x) p e) e) ≡ rootValues p (dirOf Windows (Is x) p e) e
+dir-spellings : (x : Prefix) (p : List ℕ) (e : ℕ) → verbatimKind x ≡ true → spellingsOf p (dirPart (dirOf Windows (Is x) p e) e) ≡ rootValues p (dirOf Windows (Is x) p e) e
 unfolding dirOf spellingsOf
-dir-values x p e h = split (sepAt Windows p e) (λ f. rw f) (λ f. rw (f, verb-dir x h))
+dir-spellings x p e h = split (sepAt Windows p e) (λ f. rw f) (λ f. rw (f, verb-dir x h))
 
 module _ (s : List ℕ) (h : Start) (o : OpenAt Windows s h) where
   start-prefix : h .prefix ≡ prefixIn Windows s
@@ -116,21 +116,21 @@ module _ (s : List ℕ) (h : Start) (o : OpenAt Windows s h) where
   unfolding startOf
   start-dir = rw (o .is)
 
-  list-values : (z : Parsed) (k : Seps) → prefixIn Windows s ≡ z → innerSeps Windows z ≡ k
+  list-spellings : (z : Parsed) (k : Seps) → prefixIn Windows s ≡ z → innerSeps Windows z ≡ k
       → spellingsOf s (listOf Windows s) ≡ spellingsOf s (prefixPart z (h .end)) ++ spellingsOf s (dirPart (h .dir) (h .end)) ++ spellingsOf s (within (isSep k) (dots k) s (h .at) (length s))
   unfolding wholeOf headList bodyList within
-  list-values z k e f =
+  list-spellings z k e f =
       let i : h .prefix ≡ z = start-prefix ∙ e in
       let j : h .seps ≡ k = start-seps ∙ ap (innerSeps Windows) e ∙ f in
       rw (← whole-list Windows s h o, i, j, take-length s, spellings-append, spellings-append)
 
 module _ (p : List ℕ) (h : Start) (o : OpenAt Windows p h) (x : Prefix) (e : prefixIn Windows p ≡ Is x) (v : verbatimKind x ≡ true) where
   -- p's list
-  front-values : spellingsOf p (listOf Windows p) ≡ frontList x (take (h .end) p) (rootsOf (h .dir)) (take (dirLen (h .dir)) (drop (h .end) p)) ++ spellingsOf p (within (isSep OnlyBack) (dots OnlyBack) p (h .at) (length p))
+  front-spellings : spellingsOf p (listOf Windows p) ≡ frontList x (take (h .end) p) (rootsOf (h .dir)) (take (dirLen (h .dir)) (drop (h .end) p)) ++ spellingsOf p (within (isSep OnlyBack) (dots OnlyBack) p (h .at) (length p))
   unfolding spellingsOf
-  front-values =
+  front-spellings =
       let d : h .dir ≡ dirOf Windows (Is x) p (h .end) = start-dir p h o ∙ ap (λ (z : Parsed). dirOf Windows z p (h .end)) e in
-      list-values p h o (Is x) OnlyBack e (verb-seps x v) ∙ rw (d, dir-values x p (h .end) v)
+      list-spellings p h o (Is x) OnlyBack e (verb-seps x v) ∙ rw (d, dir-spellings x p (h .end) v)
 
 -- q's first component: a root cuts p's list to the prefix, and a dot does nothing
 laid-root : (q : List ℕ) (v : Spelling) (l m : List Spelling) (d : Dir) (e : ℕ) → rootsOf d ≡ true → laid (v ∷ l) (spellingsOf q (dirPart d e) ++ m) ≡ laid (v ∷ record { component = RootDir; bytes = take (dirLen d) (drop e q) } ∷ []) m
@@ -149,22 +149,22 @@ laid-dir q l m Dot e h = refl
 
 -- `share_of`: a and b are what `begin` answered
 module _ (p q : List ℕ) (h g : Start) (a : OpenAt Windows p h) (b : OpenAt Windows q g) (n : prefixIn Windows q ≡ Nothing) where
-  tail-values : spellingsOf q (listOf Windows q) ≡ spellingsOf q (dirPart (g .dir) (g .end)) ++ spellingsOf q (within (isSep Windows) (dots Windows) q (g .at) (length q))
+  tail-spellings : spellingsOf q (listOf Windows q) ≡ spellingsOf q (dirPart (g .dir) (g .end)) ++ spellingsOf q (within (isSep Windows) (dots Windows) q (g .at) (length q))
   unfolding spellingsOf
-  tail-values = list-values q g b Nothing Windows n refl
+  tail-spellings = list-spellings q g b Nothing Windows n refl
 
   module _ (x : Prefix) (e : prefixIn Windows p ≡ Is x) (v : verbatimKind x ≡ true) where
     root-text : rootsOf (g .dir) ≡ true → verbatimJoin p q ≡ take (h .end) p ++ behindText true (bothText p (h .at) (h .at) q (g .at))
     unfolding verbatimJoin bothText textAt owedAt spellingsOf PlainV
     root-text r =
         let z : within (isSep OnlyBack) (dots OnlyBack) p (h .at) (h .at) ≡ [] = within-none (isSep OnlyBack) (dots OnlyBack) p (h .at) (h .at) (omega arith) (omega (arith, a .high)) in
-        rw (z, front-values p h a x e v, tail-values, laid-root q _ _ _ (g .dir) (g .end) r)
+        rw (z, front-spellings p h a x e v, tail-spellings, laid-root q _ _ _ (g .dir) (g .end) r)
         (front-text x (take (h .end) p) true _ [] _ tt (spellings-plain Windows q (g .at) (length q)))
 
     parts-text : rootsOf (g .dir) ≡ false → verbatimJoin p q ≡ take (h .end) p ++ behindText (rootsOf (h .dir)) (bothText p (h .at) (length p) q (g .at))
     unfolding verbatimJoin bothText textAt owedAt
     parts-text r =
-        rw (front-values p h a x e v, tail-values, laid-dir q _ _ (g .dir) (g .end) r)
+        rw (front-spellings p h a x e v, tail-spellings, laid-dir q _ _ (g .dir) (g .end) r)
         (front-text x (take (h .end) p) (rootsOf (h .dir)) _ _ _ (spellings-plain OnlyBack p (h .at) (length p)) (spellings-plain Windows q (g .at) (length q)))
 
   root-shared : (z : Parsed) → prefixIn Windows p ≡ z → verbatimIn z ≡ true → rootsOf (g .dir) ≡ true → Shared p q (record { end = h .end; root = true; lo = h .at; hi = h .at; at = g .at })

@@ -37,7 +37,7 @@ pub struct Stretch {
     pub left: usize,
 }
 
-// How many bytes stay of a span, with a `\` before each part, and how many names are to go before it.
+// How many bytes stay of a stretch, with a `\` before each part, and how many names are to go before it.
 pub struct Tally {
     pub len: usize,
     pub left: usize,
@@ -112,7 +112,7 @@ fn sift_kind(k: Seps, kind: Kind, c: usize) -> Sift
     }
 }
 
-// What stays of a span.
+// What stays of a stretch.
 fn count_kept(k: Seps, s: &[u8], t: Stretch) -> Tally
     requires { ⌜ (length (now s) ≤ limit) × (t .hi ≤ length (now s)) × (t .left ≤ limit + 1) ⌝ }
     ensures { λ r. ⌜ Tallied k (now (s .entry)) t r ⌝ }
@@ -160,7 +160,7 @@ fn put_part(out: &mut [u8], k: usize, s: &[u8], x: Part) -> usize
     j
 }
 
-// What stays of a span, written so that it ends at n; where it starts.
+// What stays of a stretch, written so that it ends at n; where it starts.
 fn write_kept(k: Seps, s: &[u8], t: Stretch, out: &mut [u8], n: usize) -> usize
     requires { ⌜ (length (now s) ≤ limit) × (t .hi ≤ length (now s)) × (t .left ≤ limit + 1) × (length (stretchText k (now s) t) ≤ n) × (n ≤ length (now out)) ⌝ }
     ensures { λ r. ⌜ n ≡ r + length (stretchText k (now (s .entry)) t) ⌝ }

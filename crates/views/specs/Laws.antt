@@ -154,10 +154,11 @@ module _ (g b : List Element) (u : (f : ℕ) → f < length b → leaves (nthBac
   up-inside : (dot : Bool) (n : ℕ) (x : Element) → n < length b → (dot ≡ true → length g ≡ 1) → Here x ≡ nthBackOf b n → upBy dot (g ++ b) n ≡ result (seen 0 (x .start + x .len))
   unfolding upBy guard cutOf
   up-inside dot n x h a e =
+      let z : x .start + x .len + 0 ≡ x .start + x .len = omega arith in
       rw (climbs-body n (omega arith), back-behind g b n h, ← e)
       (split dot
-      (λ y. let z : x .start + x .len + 0 ≡ x .start + x .len = omega arith in rw (y, ne-eqb (length (g ++ b)) (n + 1) (λ w. omega (arith, length-append g b, a y)), z))
-      (λ y. let z : x .start + x .len + 0 ≡ x .start + x .len = omega arith in rw (y, z)))
+      (λ y. rw (y, ne-eqb (length (g ++ b)) (n + 1) (λ w. omega (arith, length-append g b, a y)), z))
+      (λ y. rw (y, z)))
 
 -- ---- `head_up`
 pub up-fixed : (d x : Dir) (n : ℕ) (r : View) → d ≡ x → refuse Absent ≡ headUp x n → r ≡ refusedView Absent → r ≡ told refusedView (headUp d n)
@@ -318,7 +319,7 @@ module _ (k : Seps) (s : List ℕ) (h : Start) (o : OpenAt k s h) where
   abbrev body : List Element
   body = within (isSep (h .seps)) (dots (h .seps)) s (h .at) (length s)
 
-  -- n steps back from the list are m steps back from a head and a body
+  -- steps back from the list are steps back from the head and the body
   up-whole : (n : ℕ) (x : Outcome View) → upBy (dotted h s) (headList h ++ body) n ≡ x → upBy (dotted (startOf k s) s) (listOf k s) n ≡ x
   unfolding listTo
   up-whole n x e = rw (dot-same, whole-left) e
