@@ -48,7 +48,7 @@ enum {
 /* Kinds of prefix; 0 is none. Here a backslash is written as it stands in the path. */
 enum {
     BRIDLESTEP_VERBATIM = 1,      /* \\?\name */
-    BRIDLESTEP_VERBATIM_UNC = 2,  /* \\?\UNC\server\share */
+    BRIDLESTEP_VERBATIM_UNC = 2,  /* \\?\UNC\server\share, or \\?\UNC/server\share */
     BRIDLESTEP_VERBATIM_DISK = 3, /* \\?\C: */
     BRIDLESTEP_DEVICE_NS = 4,     /* \\.\name */
     BRIDLESTEP_UNC = 5,           /* \\server\share */

@@ -40,6 +40,13 @@ static void prefixes(void)
     CHECK(p.start1 == 0 && p.len1 == 0 && p.start2 == 0 && p.len2 == 0);
     CHECK(bridlestep_prefix(BRIDLESTEP_WINDOWS, bytes("\\\\s\\h\\x"), 7, &p) == BRIDLESTEP_DONE);
     CHECK(p.kind == BRIDLESTEP_UNC && p.start1 == 2 && p.len1 == 1 && p.start2 == 4 && p.len2 == 1 && p.len == 5);
+    /* a `/` behind \\?\UNC counts as `\`; one among the first four bytes, or small letters, make it another kind */
+    CHECK(bridlestep_prefix(BRIDLESTEP_WINDOWS, bytes("\\\\?\\UNC/s\\h"), 11, &p) == BRIDLESTEP_DONE);
+    CHECK(p.kind == BRIDLESTEP_VERBATIM_UNC && p.start1 == 8 && p.len1 == 1 && p.start2 == 10 && p.len2 == 1 && p.len == 11);
+    CHECK(bridlestep_prefix(BRIDLESTEP_WINDOWS, bytes("\\\\?/UNC\\s\\h"), 11, &p) == BRIDLESTEP_DONE);
+    CHECK(p.kind == BRIDLESTEP_UNC && p.start1 == 2 && p.len1 == 1 && p.start2 == 4 && p.len2 == 3 && p.len == 7);
+    CHECK(bridlestep_prefix(BRIDLESTEP_WINDOWS, bytes("\\\\?\\unc\\s\\h"), 11, &p) == BRIDLESTEP_DONE);
+    CHECK(p.kind == BRIDLESTEP_VERBATIM && p.start1 == 4 && p.len1 == 3 && p.start2 == 0 && p.len2 == 0 && p.len == 7);
     memset(&p, 0xa5, sizeof p);
     CHECK(bridlestep_prefix(BRIDLESTEP_UNIX, bytes("c:\\a"), 4, &p) == BRIDLESTEP_ABSENT);
     CHECK(all(&p, sizeof p, 0));
@@ -64,6 +71,9 @@ static void steps(void)
     CHECK(bridlestep_next(BRIDLESTEP_WINDOWS, 0, 0, NULL, 0, &s) == BRIDLESTEP_ABSENT);
     CHECK(bridlestep_next_back(BRIDLESTEP_WINDOWS, 0, 0, bytes("C:."), 3, &s) == BRIDLESTEP_DONE);
     CHECK(s.kind == BRIDLESTEP_PREFIX && s.prefix_kind == BRIDLESTEP_DISK && s.prefix_letter == 'C' && s.len == 2);
+    CHECK(bridlestep_next(BRIDLESTEP_WINDOWS, 0, 0, bytes("\\\\?\\UNC/s\\h"), 11, &s) == BRIDLESTEP_DONE);
+    CHECK(s.kind == BRIDLESTEP_PREFIX && s.prefix_kind == BRIDLESTEP_VERBATIM_UNC && s.start == 0 && s.len == 11);
+    CHECK(bridlestep_next(s.mode, s.front, s.back, bytes("\\\\?\\UNC/s\\h"), 11, &s) == BRIDLESTEP_ABSENT);
 }
 
 static void orders(void)
@@ -73,6 +83,10 @@ static void orders(void)
     CHECK(bridlestep_compare(BRIDLESTEP_UNIX, bytes("a"), 1, bytes("b"), 1, &order) == BRIDLESTEP_DONE && order == 0);
     CHECK(bridlestep_compare(BRIDLESTEP_UNIX, bytes("b"), 1, NULL, 0, &order) == BRIDLESTEP_DONE && order == 2);
     CHECK(bridlestep_compare(BRIDLESTEP_UNIX, NULL, 0, NULL, 0, &order) == BRIDLESTEP_DONE && order == 1);
+    order = 7;
+    CHECK(bridlestep_compare(BRIDLESTEP_WINDOWS, bytes("\\\\?\\UNC/s\\h"), 11, bytes("\\\\?\\UNC\\s\\h"), 11, &order) ==
+          BRIDLESTEP_DONE);
+    CHECK(order == 1);
     order = 7;
     CHECK(bridlestep_compare(2, bytes("a"), 1, bytes("b"), 1, &order) == BRIDLESTEP_MODE && order == 0);
 }
@@ -98,6 +112,9 @@ static void joins(void)
     CHECK(bridlestep_join(BRIDLESTEP_WINDOWS, bytes("\\\\?\\C:\\a"), 8, bytes("long\\..\\b"), 9, out, 10, &len) ==
           BRIDLESTEP_DONE);
     CHECK(len == 10 && memcmp(out, "\\\\?\\C:\\a\\b", 10) == 0);
+    /* the prefix's bytes stay as they were spelled */
+    CHECK(bridlestep_join(BRIDLESTEP_WINDOWS, bytes("\\\\?\\UNC/s\\h"), 11, bytes("12"), 2, out, 14, &len) == BRIDLESTEP_DONE);
+    CHECK(len == 14 && memcmp(out, "\\\\?\\UNC/s\\h\\12", 14) == 0);
 }
 
 int main(void)

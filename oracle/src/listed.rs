@@ -14,10 +14,9 @@ pub enum Listed {
     EmptyStrip,
     ShareOutside,
     ExtensionPanic,
-    UncSlash,
 }
 
-pub const ALL: [Listed; 8] = [
+pub const ALL: [Listed; 7] = [
     Listed::BackTookPrefix,
     Listed::AfterAbsent,
     Listed::PrefixFromBack,
@@ -25,7 +24,6 @@ pub const ALL: [Listed; 8] = [
     Listed::EmptyStrip,
     Listed::ShareOutside,
     Listed::ExtensionPanic,
-    Listed::UncSlash,
 ];
 
 impl Listed {
@@ -39,7 +37,6 @@ impl Listed {
             Listed::EmptyStrip => "D5",
             Listed::ShareOutside => "D6",
             Listed::ExtensionPanic => "D7",
-            Listed::UncSlash => "R1",
         }
     }
 
@@ -62,7 +59,6 @@ impl Listed {
                 "an empty share that no `\\` came before has no place in Rust, here the path's end"
             }
             Listed::ExtensionPanic => "an extension with a separator: Rust panics, here reply 4",
-            Listed::UncSlash => "`\\\\?\\UNC/` is VerbatimUNC: the Rust's answer stands",
         }
     }
 }

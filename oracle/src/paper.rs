@@ -50,6 +50,7 @@ fn prefix(p: &[u8]) -> Option<BarePrefix> {
     match p.get(2) {
         Some(b'?') if sep(3) && !p[..4].contains(&b'/') => {
             let behind = &p[4..];
+            // `UNC\` or `UNC/` (02, c)
             if behind.starts_with(b"UNC") && sep(7) {
                 return two(p, 8, true);
             }

@@ -197,9 +197,6 @@ impl<'a, S: Paths> Call<'a, S> {
             n[2 + 2 * i] = e.start as u64;
             n[3 + 2 * i] = e.len as u64;
         }
-        if self.p().starts_with(b"\\\\?\\UNC/") {
-            self.tally.touch(Listed::UncSlash, self.asked);
-        }
         n
     }
 

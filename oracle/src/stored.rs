@@ -59,6 +59,9 @@ fn each_head(heads: &[&[u8]], tails: &[&[u8]], f: &mut dyn FnMut(&[u8])) {
     }
 }
 
+/// E13: `/` behind `\\?\UNC`, a `/` among the first four bytes, small letters.
+const NEAR_UNC: [&[u8]; 3] = [b"\\\\?\\UNC/s\\h", b"\\\\?/UNC\\s\\h", b"\\\\?\\unc\\s\\h"];
+
 /// Mode numbers that are none, and the two that are.
 const MODES: [u64; 6] = [0, 1, 2, 7, 1 << 32, u64::MAX];
 
@@ -69,7 +72,7 @@ fn prefix(s: &mut Sink<'_>) {
         b"c:\\a", b"C:.", b"//?/C:/x", b"\\\\?\\C:x\\y", b"\\\\server", b"\\\\?\\UNC\\", b"\\\\?\\C:\\a",
         b"C:a",
     ];
-    for p in examples {
+    for p in examples.iter().copied().chain(NEAR_UNC) {
         MODES.iter().for_each(|&m| s.ask("prefix", &[m], &[p]));
     }
     each_head(&HEADS, &TAILS, &mut |p| s.ask("prefix", &[1], &[p]));
@@ -81,6 +84,11 @@ fn prefix(s: &mut Sink<'_>) {
         s.ask("prefix", &[1], &[&[b"\\\\?\\", &[letter, b':'][..]].concat()]);
     }
     every(b"\\\\?\\UNC", b"\\/sh", 1, 2, &mut |p| s.ask("prefix", &[1], &[p]));
+    each_turned(&mut |p| s.ask("prefix", &[1], &[p]));
+    // byte 7: the neighbours of `/` and of `\`, and the ends
+    for b in [0, b'.', b'0', b'[', b']', 0xff] {
+        s.ask("prefix", &[1], &[&[b"\\\\?\\UNC", &[b][..], b"s\\h"].concat()]);
+    }
     for n in 1..16 {
         s.ask("prefix", &[1], &[&b"\\\\?\\UNC\\s\\h\\abcd"[..n]]);
         s.ask("prefix", &[1], &[&b"//?/UNC/s/h/abcd"[..n]]);
@@ -90,6 +98,21 @@ fn prefix(s: &mut Sink<'_>) {
     }
     s.ask("prefix", &[0], &[&long(b"", b"a", 4_097)]);
     s.ask("prefix", &[2], &[&long(b"", b"a", 4_097)]);
+}
+
+/// `\\?\UNC\s\h` with any of the bytes 0 to 7 as what may be taken for it: `/`
+/// for `\`, and a small letter.
+fn each_turned(f: &mut dyn FnMut(&[u8])) {
+    let (plain, turned) = (b"\\\\?\\UNC\\s\\h", b"//?/unc/");
+    for choice in 0..1 << 7 {
+        let mut p = *plain;
+        for (bit, i) in [0, 1, 3, 4, 5, 6, 7].into_iter().enumerate() {
+            if choice >> bit & 1 == 1 {
+                p[i] = turned[i];
+            }
+        }
+        f(&p);
+    }
 }
 
 /// `head` and then `step` again and again, `n` bytes in all.
@@ -106,7 +129,7 @@ fn steps(s: &mut Sink<'_>) {
     unix.iter().for_each(|p| sets::each_mixture(s, 0, p, 1));
     let examples: [&[u8]; 6] =
         [b"c:\\a", b"//?/C:/x", b"\\\\?\\C:x\\y", b"\\\\server", b"C:.\\.\\a\\.", b"\\\\?\\C:/x\\.\\y/z"];
-    examples.iter().for_each(|p| sets::each_mixture(s, 1, p, 1));
+    examples.iter().chain(&NEAR_UNC).for_each(|p| sets::each_mixture(s, 1, p, 1));
     refused_steps(s);
 }
 
@@ -183,7 +206,7 @@ const UNIX_PAIRS: [Pair; 16] = [
     (b"\xff", b"a"),
 ];
 
-const WINDOWS_PAIRS: [Pair; 18] = [
+const WINDOWS_PAIRS: [Pair; 21] = [
     (b"c:\\a", b"C:\\"),
     (b"C:.", b"C:"),
     (b"C:.\\a", b"C:"),
@@ -199,6 +222,9 @@ const WINDOWS_PAIRS: [Pair; 18] = [
     (b"\\\\?\\v\\.\\a", b"\\\\?\\v\\a"),
     (b"\\\\?\\UNC\\s\\h\\a", b"\\\\?\\UNC\\s\\h"),
     (b"\\\\?\\UNC/s\\h", b"\\\\?\\UNC\\s\\h"),
+    (b"\\\\?\\UNC\\s\\h\\a", b"\\\\?\\UNC/s\\h"),
+    (b"\\\\?/UNC\\s\\h", b"\\\\?\\UNC\\s\\h"),
+    (b"\\\\?\\unc\\s\\h", b"\\\\?\\UNC\\s\\h"),
     (b"a\\b", b"a/b"),
     (b"a\\b\\", b"b"),
     (b"\\\\server", b"\\server"),
@@ -235,6 +261,9 @@ fn writes(s: &mut Sink<'_>) {
     });
     let long_join = b"long\\..\\b";
     rooms(s, "join", 1, b"\\\\?\\C:\\a", long_join);
+    for p in NEAR_UNC {
+        [&b"a"[..], b"\\b"].iter().for_each(|q| rooms(s, "join", 1, p, q));
+    }
     rooms(s, "join", 1, b"C:", b"x");
     rooms(s, "join", 1, b"C:a", b"\\b");
     for p in UNIX_PATHS {

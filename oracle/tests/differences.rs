@@ -3,6 +3,7 @@
 
 use oracle::compare::compare;
 use oracle::listed::Listed;
+use oracle::paper::Paper;
 use oracle::protocol::Answerer;
 use oracle::{Dir, Ext, Mode, Paths, Real, findings, stored};
 
@@ -56,10 +57,16 @@ fn extension_with_a_separator() {
     assert_eq!(Real.set_extension(Mode::Unix, b"", b"/"), oracle::SetExt::Separator);
 }
 
+/// Document 01, amended by request c, reads `\\?\UNC/s\h` as the Rust does.
 #[test]
-fn unc_with_a_slash() {
-    let line = "prefix 1 5c5c3f5c554e432f735c68";
-    assert_eq!(touches(line, Listed::UncSlash), "0 2 0 8 1 10 1 11");
+fn unc_with_a_slash_is_no_difference() {
+    let (mut real, mut rules) = (Answerer::<Real>::default(), Answerer::<Paper>::default());
+    let (mut a, mut b) = (Vec::new(), Vec::new());
+    let line = b"prefix 1 5c5c3f5c554e432f735c68";
+    real.answer(line, &mut a);
+    rules.answer(line, &mut b);
+    assert_eq!((&a[..], &b[..]), (&b"0 2 0 8 1 10 1 11\n"[..], &b"0 2 0 8 1 10 1 11\n"[..]));
+    assert_eq!(real.tally.report(), "unlisted x0\n");
 }
 
 /// The program's own answers agree with themselves; a changed, a missing and

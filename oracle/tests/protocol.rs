@@ -84,6 +84,16 @@ fn e5_to_e9_windows() {
     assert_eq!(list(1, b"\\\\?\\UNC\\"), [[1, 2, 0, 8]]);
 }
 
+#[test]
+fn e13_unc_with_a_slash() {
+    assert_eq!(list(1, b"\\\\?\\UNC/s\\h"), [[1, 2, 0, 11]]);
+    assert_eq!(of("prefix 1", &[b"\\\\?\\UNC/s\\h"]), "0 2 0 8 1 10 1 11");
+    assert_eq!(list(1, b"\\\\?/UNC\\s\\h"), [[1, 5, 0, 7], [2, 0, 7, 1], [5, 0, 8, 1], [5, 0, 10, 1]]);
+    assert_eq!(of("prefix 1", &[b"\\\\?/UNC\\s\\h"]), "0 5 0 2 1 4 3 7");
+    assert_eq!(list(1, b"\\\\?\\unc\\s\\h"), [[1, 1, 0, 7], [2, 0, 7, 1], [5, 0, 8, 1], [5, 0, 10, 1]]);
+    assert_eq!(of("prefix 1", &[b"\\\\?\\unc\\s\\h"]), "0 1 0 4 3 0 0 7");
+}
+
 fn written(words: &str, p: &[u8], q: &[u8], result: &[u8]) {
     let n = result.len();
     for room in [n, n + 2] {

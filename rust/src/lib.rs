@@ -90,7 +90,7 @@ fn judge<T>(reply: calls::Reply, answer: T) -> Result<Option<T>, Error> {
 pub enum Prefix<'a> {
     /// `\\?\name`
     Verbatim(&'a [u8]),
-    /// `\\?\UNC\server\share`
+    /// `\\?\UNC\server\share`, or `\\?\UNC/server\share`
     VerbatimUnc(&'a [u8], &'a [u8]),
     /// `\\?\C:`
     VerbatimDisk(u8),

@@ -17,6 +17,10 @@ fn every_prefix() {
     assert_eq!(of(br"\\?\pictures\a"), Some((Prefix::Verbatim(b"pictures"), &br"\\?\pictures"[..])));
     assert_eq!(of(br"\\?\UNC\s\h\a"), Some((Prefix::VerbatimUnc(b"s", b"h"), &br"\\?\UNC\s\h"[..])));
     assert_eq!(of(br"\\?\UNC\"), Some((Prefix::VerbatimUnc(b"", b""), &br"\\?\UNC\"[..])));
+    // a `/` behind \\?\UNC counts as `\`; one among the first four bytes, or small letters, make it another kind
+    assert_eq!(of(br"\\?\UNC/s\h"), Some((Prefix::VerbatimUnc(b"s", b"h"), &br"\\?\UNC/s\h"[..])));
+    assert_eq!(of(br"\\?/UNC\s\h"), Some((Prefix::Unc(b"?", b"UNC"), &br"\\?/UNC"[..])));
+    assert_eq!(of(br"\\?\unc\s\h"), Some((Prefix::Verbatim(b"unc"), &br"\\?\unc"[..])));
     assert_eq!(of(br"\\?\d:\a"), Some((Prefix::VerbatimDisk(b'D'), &br"\\?\d:"[..])));
     assert_eq!(of(br"\\.\COM1"), Some((Prefix::DeviceNs(b"COM1"), &br"\\.\COM1"[..])));
     assert_eq!(of(b"//s/h/a"), Some((Prefix::Unc(b"s", b"h"), &b"//s/h"[..])));
@@ -32,6 +36,7 @@ fn every_component() {
     assert_eq!(kinds(Mode::Unix, b"./a/../b/."), [CurDir, Normal, ParentDir, Normal]);
     assert_eq!(kinds(Mode::Unix, b"/"), [RootDir]);
     assert_eq!(kinds(Mode::Windows, b"C:."), [Kind::Prefix(Prefix::Disk(b'C'))]);
+    assert_eq!(kinds(Mode::Windows, br"\\?\UNC/s\h"), [Kind::Prefix(Prefix::VerbatimUnc(b"s", b"h"))]);
     let share = all(Mode::Windows, br"\\s\h");
     assert_eq!(share[1], Component { kind: RootDir, bytes: b"", start: 5 });
     assert_eq!(share[1].extent(), 5..5);
@@ -119,6 +124,7 @@ fn orders() {
     assert_eq!(compare(Mode::Unix, b"a/./b", b"a//b/"), Ok(Ordering::Equal));
     assert_eq!(compare(Mode::Unix, br"a\b", b"a/b"), Ok(Ordering::Greater));
     assert_eq!(compare(Mode::Windows, br"a\b", b"a/b"), Ok(Ordering::Equal));
+    assert_eq!(compare(Mode::Windows, br"\\?\UNC/s\h", br"\\?\UNC\s\h"), Ok(Ordering::Equal));
 }
 
 #[test]

@@ -1,4 +1,4 @@
--- The checked examples of document 01, E1 to E12 as one statement over the set, and its edges as another. Every definition computes, so each
+-- The checked examples of document 01, E1 to E13 as one statement over the set, and its edges as another. Every definition computes, so each
 -- is `refl`, save where it speaks of every buffer or of every path of a length.
 use Prim.Native.Nat.{ℕ}
 use native.Mathlib.Omega.{arith}
@@ -90,8 +90,12 @@ pub examples :
     -- E12 W `\\?\C:\a` join `long\..\b`, 10 bytes of room: `\\?\C:\a\b`; with 9: Room
     × ((before : List ℕ) → length before ≡ 10 → Wrote joined12 (seen 0 10) before left12)
     × ((before : List ℕ) → length before ≡ 9 → Wrote joined12 (refusedView Room) before before)
+    -- E13 W `\\?\UNC/s\h`: VerbatimUNC(`s`, `h`), length 11, one component; `\\?/UNC\s\h`: UNC(`?`, `UNC`), RootDir, s, h; `\\?\unc\s\h`: Verbatim(`unc`), RootDir, s, h
+    × (listOf Windows (92 ∷ 92 ∷ 63 ∷ 92 ∷ 85 ∷ 78 ∷ 67 ∷ 47 ∷ 115 ∷ 92 ∷ 104 ∷ []) ≡ at (Prefix (VerbatimUnc (pair (name 8 1) (name 10 1)))) 0 11 ∷ [])
+    × (listOf Windows (92 ∷ 92 ∷ 63 ∷ 47 ∷ 85 ∷ 78 ∷ 67 ∷ 92 ∷ 115 ∷ 92 ∷ 104 ∷ []) ≡ at (Prefix (Unc (pair (name 2 1) (name 4 3)))) 0 7 ∷ at RootDir 7 1 ∷ at Normal 8 1 ∷ at Normal 10 1 ∷ [])
+    × (listOf Windows (92 ∷ 92 ∷ 63 ∷ 92 ∷ 117 ∷ 110 ∷ 99 ∷ 92 ∷ 115 ∷ 92 ∷ 104 ∷ []) ≡ at (Prefix (Verbatim (name 4 3))) 0 7 ∷ at RootDir 7 1 ∷ at Normal 8 1 ∷ at Normal 10 1 ∷ [])
 unfolding classOf isLetter lead guard turned begins slashed capital drive driveExact past nameOf namesOf isVerbatim verbatimOf uncOf deviceOf prefixOf sortBy rest from nthOf nthBackOf sepAt dotAt dirOf startOf headList bodyList wholeOf listOf hasRoot isAbsolute restOf leftEnd emptyAt dotted behindDot restFor wants glued seamed mended mereDisk parted joined twoSlashes startFor oneByOne ends closed finished absoluteOf
-examples = (refl, refl, refl, refl, refl, refl, refl, refl, refl, refl, λ cwd. refl, λ cwd. refl, refl, refl, fits12, full12)
+examples = (refl, refl, refl, refl, refl, refl, refl, refl, refl, refl, λ cwd. refl, λ cwd. refl, refl, refl, fits12, full12, refl, refl, refl)
 
 -- Edges
 pub edges :

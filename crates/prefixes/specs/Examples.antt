@@ -1,10 +1,13 @@
--- Worked examples of prefixes, and that a prefix lies in its path.
-use Prim.Native.Nat.{ℕ, _+_, _-_, _≤_, _<_}
-use native.Mathlib.Omega.{arith}
-use mathlib.Core.Path.{_≡_, refl, sym, _∙_}
+-- Worked examples of prefixes; and that behind `\\?\UNC` either separator, and no other byte, leads to a server and a share.
+use Prim.Native.Nat.{ℕ}
+use mathlib.Core.Path.{_≡_, refl, sym}
 use mathlib.Core.List.{List, [], _∷_}
-use Rattle.octets.specs.Class.{classOf, isLetter}
+use mathlib.Core.Bool.{true, false, false≢true}
+use lib.Dec.{eqb}
+use Rattle.octets.specs.Class.{classOf, isLetter, isSep}
 use Rattle.octets.specs.Segment.{lead}
+use Rattle.octets.specs.Laws.{split}
+use Rattle.octets.specs.declared.Seps.the-variants.{Windows, Verbatim as OnlyBack}
 use Rattle.prefixes.specs.declared.Name.{Name}
 use Rattle.prefixes.specs.declared.Names.{Names}
 use Rattle.prefixes.specs.declared.Prefix.the-variants.{Verbatim, VerbatimUnc, VerbatimDisk, DeviceNs, Unc, Disk}
@@ -18,7 +21,7 @@ abbrev pair : Name → Name → Names
 pair a b = record { server = a; share = b }
 
 -- E4 `c:\a`: Disk C; E6 `//?/C:/x`: UNC(`?`, `C:`); E7 `\\?\C:x\y`: Verbatim(`C:x`); E8 `\\server`: none;
--- E9 `\\?\UNC\`: VerbatimUNC, both names empty; `\\?\UNC/s\h`: VerbatimUNC(s, h); `\\?\C:`: VerbatimDisk C; `\\.\COM1/x`: DeviceNS(COM1)
+-- E9 `\\?\UNC\`: VerbatimUNC, both names empty; E13 `\\?\UNC/s\h`: VerbatimUNC(s, h); `\\?\C:`: VerbatimDisk C; `\\.\COM1/x`: DeviceNS(COM1)
 pub examples :
     (prefixOf (99 ∷ 58 ∷ 92 ∷ 97 ∷ []) ≡ Is (Disk 67))
     × (prefixOf (47 ∷ 47 ∷ 63 ∷ 47 ∷ 67 ∷ 58 ∷ 47 ∷ 120 ∷ []) ≡ Is (Unc (pair (at 2 1) (at 4 2))))
@@ -30,3 +33,14 @@ pub examples :
     × (prefixOf (92 ∷ 92 ∷ 46 ∷ 92 ∷ 67 ∷ 79 ∷ 77 ∷ 49 ∷ 47 ∷ 120 ∷ []) ≡ Is (DeviceNs (at 4 4)))
 unfolding prefixOf isVerbatim verbatimOf uncOf deviceOf turned begins slashed capital drive driveExact past nameOf namesOf lead classOf isLetter
 examples = (refl, refl, refl, refl, refl, refl, refl, refl)
+
+module _ (b : ℕ) (t : List ℕ) where
+  -- "If bytes 4 to 7 are `UNC\` or `UNC/` (02, c), parsing goes on with the part behind the first eight bytes": whatever that part is
+  pub unc-either : isSep Windows b ≡ true → prefixOf (92 ∷ 92 ∷ 63 ∷ 92 ∷ 85 ∷ 78 ∷ 67 ∷ b ∷ t) ≡ Is (VerbatimUnc (namesOf (isSep OnlyBack) 8 t))
+  unfolding prefixOf isVerbatim verbatimOf turned begins slashed
+  unc-either e = split (eqb b 47) (λ y. rw y) (λ n. let h = rw n at e in rw (n, h))
+
+  -- and with any other byte there `UNC` only begins a name
+  pub unc-neither : isSep Windows b ≡ false → prefixOf (92 ∷ 92 ∷ 63 ∷ 92 ∷ 85 ∷ 78 ∷ 67 ∷ b ∷ t) ≡ Is (Verbatim (nameOf (isSep OnlyBack) 4 (85 ∷ 78 ∷ 67 ∷ b ∷ t)))
+  unfolding prefixOf isVerbatim verbatimOf turned begins slashed drive driveExact isLetter classOf
+  unc-neither e = split (eqb b 47) (λ y. let h = rw y at e in absurd (false≢true (sym h))) (λ n. let h = rw n at e in rw (n, h))

@@ -1,4 +1,4 @@
--- Windows prefixes. Document 01, "Windows prefixes"; where windows_prefix.rs reads otherwise (`\\?\UNC/`), the Rust decides.
+-- Windows prefixes. Document 01, "Windows prefixes".
 use Prim.Native.Nat.{ℕ, _+_, _-_, _≤_}
 use mathlib.Core.Path.{_≡_}
 use mathlib.Core.List.{List, [], _∷_}
@@ -17,7 +17,8 @@ use Rattle.prefixes.specs.declared.Prefix.the-variants.{Verbatim, Verbat
 use Rattle.prefixes.specs.declared.Parsed.{Parsed}
 use Rattle.prefixes.specs.declared.Parsed.the-variants.{Nothing, Is}
 
--- "Wherever `\\`, `?\` or `.\` is looked for, `/` counts as `\`."
+-- "Wherever `\\`, `?\` or `.\` is looked for, `/` counts as `\`." And so in `UNC\`: "The Rust compares a copy of the first eight
+-- bytes in which `/` was already turned to `\`"
 unfoldable pub turned : ℕ → ℕ
 turned b = cond (eqb b 47) 92 b
 
@@ -64,7 +65,7 @@ namesOf sep i t =
           };
     }
 
--- behind `\\?\`: "If bytes 4 to 7 are `UNC\`, parsing goes on with the part behind the first eight bytes ..
+-- behind `\\?\`: "If bytes 4 to 7 are `UNC\` or `UNC/` (02, c), parsing goes on with the part behind the first eight bytes ..
 -- Else, if a letter and `:` follow and then the end or either separator: VerbatimDisk. Else Verbatim(name up to `\`)."
 unfoldable pub verbatimOf : List ℕ → Prefix
 verbatimOf s =

@@ -142,7 +142,7 @@ fn is_verbatim(s: &[u8]) -> bool
     true
 }
 
-// Whether `UNC\` stands behind `\\?\`.
+// Whether `UNC\` or `UNC/` stands behind `\\?\`.
 fn is_unc(s: &[u8]) -> bool
     ensures { λ r. ⌜ r ≡ begins (85 ∷ 78 ∷ 67 ∷ 92 ∷ []) (drop 4 (now (s .entry))) ⌝ }
 {

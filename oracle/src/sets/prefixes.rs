@@ -4,7 +4,10 @@ use super::{Plan, WINDOWS};
 use crate::gen_input::{every, random as random_path};
 use crate::sink::Sink;
 
-const HEADS: &[&[u8]] = &[b"\\\\?\\", b"\\\\?\\UNC\\", b"\\\\?\\UNC/", b"//?/", b"\\\\.\\", b"\\\\", b"C:"];
+const HEADS: &[&[u8]] = &[
+    b"\\\\?\\", b"\\\\?\\UNC\\", b"\\\\?\\UNC/", b"\\\\?/UNC\\", b"\\\\?\\unc\\", b"//?/", b"\\\\.\\",
+    b"\\\\", b"C:",
+];
 
 pub fn all(s: &mut Sink<'_>, _: &Plan) {
     every(b"", WINDOWS, 0, 7, &mut |p| s.ask("prefix", &[1], &[p]));
