@@ -1,8 +1,8 @@
 -- Worked examples of prefixes; and that behind `\\?\UNC` either separator, and no other byte, leads to a server and a share.
 use Prim.Native.Nat.{ℕ}
-use mathlib.Core.Path.{_≡_, refl, sym}
+use mathlib.Core.Path.{_≡_, refl}
 use mathlib.Core.List.{List, [], _∷_}
-use mathlib.Core.Bool.{true, false, false≢true}
+use mathlib.Core.Bool.{cond}
 use lib.Dec.{eqb}
 use Rattle.octets.specs.Class.{classOf, isLetter, isSep}
 use Rattle.octets.specs.Segment.{lead}
@@ -34,13 +34,9 @@ pub examples :
 unfolding prefixOf isVerbatim verbatimOf uncOf deviceOf turned begins slashed capital drive driveExact past nameOf namesOf lead classOf isLetter
 examples = (refl, refl, refl, refl, refl, refl, refl, refl)
 
-module _ (b : ℕ) (t : List ℕ) where
-  -- "If bytes 4 to 7 are `UNC\` or `UNC/` (02, c), parsing goes on with the part behind the first eight bytes": whatever that part is
-  pub unc-either : isSep Windows b ≡ true → prefixOf (92 ∷ 92 ∷ 63 ∷ 92 ∷ 85 ∷ 78 ∷ 67 ∷ b ∷ t) ≡ Is (VerbatimUnc (namesOf (isSep OnlyBack) 8 t))
-  unfolding prefixOf isVerbatim verbatimOf turned begins slashed
-  unc-either e = split (eqb b 47) (λ y. rw y) (λ n. let h = rw n at e in rw (n, h))
-
-  -- and with any other byte there `UNC` only begins a name
-  pub unc-neither : isSep Windows b ≡ false → prefixOf (92 ∷ 92 ∷ 63 ∷ 92 ∷ 85 ∷ 78 ∷ 67 ∷ b ∷ t) ≡ Is (Verbatim (nameOf (isSep OnlyBack) 4 (85 ∷ 78 ∷ 67 ∷ b ∷ t)))
-  unfolding prefixOf isVerbatim verbatimOf turned begins slashed drive driveExact isLetter classOf
-  unc-neither e = split (eqb b 47) (λ y. let h = rw y at e in absurd (false≢true (sym h))) (λ n. let h = rw n at e in rw (n, h))
+-- behind `\\?\UNC` byte 7 decides, whatever follows: "If bytes 4 to 7 are `UNC\` or `UNC/` (02, c), parsing goes on with the part behind
+-- the first eight bytes: VerbatimUNC(server, share) .. Else Verbatim(name up to `\`)."
+pub unc-either : (b : ℕ) (t : List ℕ) → prefixOf (92 ∷ 92 ∷ 63 ∷ 92 ∷ 85 ∷ 78 ∷ 67 ∷ b ∷ t)
+    ≡ Is (cond (isSep Windows b) (VerbatimUnc (namesOf (isSep OnlyBack) 8 t)) (Verbatim (nameOf (isSep OnlyBack) 4 (85 ∷ 78 ∷ 67 ∷ b ∷ t))))
+unfolding prefixOf isVerbatim verbatimOf turned begins slashed drive driveExact isLetter classOf
+unc-either b t = split (eqb b 47) (λ y. rw y) (λ n. split (eqb b 92) (λ h. rw (n, h)) (λ h. rw (n, h)))

@@ -22,7 +22,7 @@ use Rattle.prefixes.specs.declared.Parsed.the-variants.{Nothing, Is}
 unfoldable pub turned : ℕ → ℕ
 turned b = cond (eqb b 47) 92 b
 
--- s begins with w, so read
+-- s begins with w, so read: `UNC\` is found in `UNC/` too
 unfoldable pub begins : List ℕ → List ℕ → Bool
 begins [] s = true
 begins (c ∷ w) [] = false
