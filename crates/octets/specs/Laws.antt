@@ -1,19 +1,19 @@
 -- Laws of the byte classes, as a match on a byte asks them, and of where a segment ends.
 use native.Mathlib.Omega.{arith}
-use Prim.Native.Nat.{ℕ, _+_, _<_, _≤_}
+use Prim.Native.Nat.{ℕ, zero, suc, _+_, _<_, _≤_}
 use native.Mathlib.Numerals.{add-one}
 use mathlib.Core.List.{List, [], _∷_}
 use mathlib.Core.Bool.{Bool, true, false, cond, false≢true}
-use lib.Dec.{eqb, ltb}
+use lib.Bits.{bitAnd}
+use lib.Dec.{eqb, leb, ltb}
 use lib.ListN.{length, getD, drop, drop-of-length-le}
 use lib.Seq.{drop-cons}
 use mathlib.Core.Path.{_≡_, refl, sym, _∙_}
 use borrow.Author.Tests.{eq-eqb, ne-eqb, le-leb, lt-leb, ltb-true, ltb-false}
-use Rattle.octets.specs.Class.{classOf, isLetterClass, isLetter, isSep, sepsOf}
+use Rattle.octets.specs.Class.{classOf, isLetter, isSep, sepsOf}
 use Rattle.octets.specs.Segment.{lead, endOf, EndAt}
 use Rattle.octets.specs.Leaves.{lowMark, highMark, marked, ClearAt, ClearTo, ScanAt}
 use Rattle.octets.specs.declared.Seps.{Seps}
-use Rattle.octets.specs.declared.Class.{Class}
 use Rattle.octets.specs.declared.Seps.the-variants.{Unix, Windows, Verbatim}
 use Rattle.octets.specs.declared.Class.the-variants.{Slash, Backslash, Dot, Colon, Letter, Other}
 
@@ -54,11 +54,6 @@ module _ (b : ℕ) where
   unfolding classOf
   above h = simp (ne-eqb b 47 (omega arith), ne-eqb b 92 (omega arith), ne-eqb b 46 (omega arith), ne-eqb b 58 (omega arith), le-leb 65 b (omega arith), lt-leb b 90 (omega arith), le-leb 97 b (omega arith), lt-leb b 122 h)
 
--- `is_letter`
-pub letter-is : (b : ℕ) (c : Class) (r : Bool) → c ≡ classOf b → r ≡ isLetterClass c → r ≡ isLetter b
-unfolding isLetter
-letter-is b c r e f = f ∙ rw e
-
 -- `seps_of`
 module _ (m : ℕ) where
   pub unix-is : m ≡ 0 → Unix ≡ sepsOf m
@@ -69,12 +64,62 @@ module _ (m : ℕ) where
   unfolding sepsOf
   windows-is h = simp (ne-eqb m 0 h)
 
-pub ruleset classes = (is-slash, is-backslash, is-dot, is-colon, upper, lower, below, between, above, letter-is, unix-is, windows-is)
+pub ruleset classes = (is-slash, is-backslash, is-dot, is-colon, upper, lower, below, between, above, unix-is, windows-is)
 
 -- a proof for each value of a Bool, with the equation
 pub split : {A : Type 0} (b : Bool) → (b ≡ true → A) → (b ≡ false → A) → A
 split true f g = f refl
 split false f g = g refl
+
+-- a comparison of a and b, and c behind it, came out true
+agree-first : (a b c : Bool) → cond a (cond b c false) (cond b false c) ≡ true → (a ≡ b) × (c ≡ true)
+agree-first true true c e = (refl, e)
+agree-first true false c e = absurd (false≢true e)
+agree-first false true c e = absurd (false≢true e)
+agree-first false false c e = (refl, e)
+
+-- whether two tests of a number say the same of each below n
+module _ (f g : ℕ → Bool) where
+  agree : ℕ → Bool
+  agree zero = true
+  agree (suc n) = cond (f n) (cond (g n) (agree n) false) (cond (g n) false (agree n))
+
+  agree-at : (n b : ℕ) → agree n ≡ true → b < n → f b ≡ g b
+  unfolding agree
+  agree-at zero b t h = absurd (omega arith)
+  agree-at (suc n) b t h =
+      let w : (f n ≡ g n) × (agree n ≡ true) = agree-first (f n) (g n) (agree n) t in
+      split (ltb b n)
+      (λ e. agree-at n b (w .1) (ltb-true b n e))
+      (λ e. let k : b ≡ n = omega (arith, ltb-false b n e) in rw k (w .0))
+
+-- `is_letter`: what the range check says of b without the bits that m lacks
+abbrev ranged : ℕ → ℕ → Bool
+ranged m b = cond (leb 65 (bitAnd b m)) (leb (bitAnd b m) 90) false
+
+-- whether it tells the letters from the other bytes, each of the 256 looked at
+pub folds : ℕ → Bool
+folds m = agree isLetter (ranged m) 256
+
+pub bit-five : folds 223 ≡ true
+unfolding folds agree isLetter classOf
+bit-five = refl
+
+module _ (b m : ℕ) (t : folds m ≡ true) (h : b < 256) where
+  folded : isLetter b ≡ ranged m b
+  unfolding folds
+  folded = agree-at isLetter (ranged m) 256 b t h
+
+  pub folded-in : 65 ≤ bitAnd b m → bitAnd b m < 91 → true ≡ isLetter b
+  folded-in l u = simp (folded, le-leb 65 (bitAnd b m) l, le-leb (bitAnd b m) 90 (omega arith))
+
+  pub folded-low : bitAnd b m < 65 → false ≡ isLetter b
+  folded-low u = simp (folded, lt-leb 65 (bitAnd b m) u)
+
+  pub folded-high : 90 < bitAnd b m → false ≡ isLetter b
+  folded-high l = simp (folded, le-leb 65 (bitAnd b m) (omega arith), lt-leb (bitAnd b m) 90 l)
+
+pub ruleset letters = (bit-five, folded-in, folded-low, folded-high)
 
 pub lead-short : (sep : ℕ → Bool) (xs : List ℕ) → length (lead sep xs) ≤ length xs
 unfolding lead

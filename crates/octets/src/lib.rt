@@ -3,7 +3,7 @@ ghost use mathlib.Core.Path.{_≡_};
 ghost use mathlib.Core.Bool.{cond, false};
 ghost use Prim.Native.Nat.{_+_, _≤_};
 ghost use lib.ListN.{length};
-ghost use Rattle.octets.specs.Class.{classOf, isLetterClass, isLetter, isSep, sepsOf};
+ghost use Rattle.octets.specs.Class.{classOf, isLetter, isSep, sepsOf};
 ghost use Rattle.octets.specs.Segment.{EndAt};
 ghost use Rattle.octets.specs.Leaves.{lowMark, highMark, marked, ClearAt, ClearTo, ScanAt};
 
@@ -39,25 +39,15 @@ pub fn class_of(b: u8) -> Class
     }
 }
 
-fn letter_class(c: Class) -> bool
-    ensures { λ r. ⌜ r ≡ isLetterClass c ⌝ }
-{
-    match c {
-        Class::Slash => false,
-        Class::Backslash => false,
-        Class::Dot => false,
-        Class::Colon => false,
-        Class::Letter => true,
-        Class::Other => false,
-    }
-}
-
-// Whether a byte is a drive letter.
+// Whether a byte is a drive letter: bit 5 tells a small letter from its capital, so without it every letter is a capital,
+// and no other byte is.
 pub fn is_letter(b: u8) -> bool
     ensures { λ r. ⌜ r ≡ isLetter b ⌝ }
 {
-    let c = class_of(b);
-    letter_class(c)
+    match b & 223 {
+        65..=90 => true,
+        _ => false,
+    }
 }
 
 pub fn is_sep(k: Seps, b: u8) -> bool
