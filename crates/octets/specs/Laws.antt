@@ -1,4 +1,4 @@
--- Laws of the byte classes, as a match on a byte asks them, and of where a segment ends.
+-- Laws of the byte classes, as a match on a byte asks them, of the fold that tells a letter, and of where a segment ends.
 use native.Mathlib.Omega.{arith}
 use Prim.Native.Nat.{ℕ, zero, suc, _+_, _<_, _≤_}
 use native.Mathlib.Numerals.{add-one}
@@ -98,28 +98,23 @@ abbrev ranged : ℕ → ℕ → Bool
 ranged m b = cond (leb 65 (bitAnd b m)) (leb (bitAnd b m) 90) false
 
 -- whether it tells the letters from the other bytes, each of the 256 looked at
-pub folds : ℕ → Bool
+unfoldable pub folds : ℕ → Bool
+unfolding agree isLetter classOf
 folds m = agree isLetter (ranged m) 256
 
-pub bit-five : folds 223 ≡ true
-unfolding folds agree isLetter classOf
-bit-five = refl
-
-module _ (b m : ℕ) (t : folds m ≡ true) (h : b < 256) where
-  folded : isLetter b ≡ ranged m b
+module _ (b m : ℕ) (h : b < 256) where
+  folded : folds m ≡ true → isLetter b ≡ ranged m b
   unfolding folds
-  folded = agree-at isLetter (ranged m) 256 b t h
+  folded t = agree-at isLetter (ranged m) 256 b t h
 
-  pub folded-in : 65 ≤ bitAnd b m → bitAnd b m < 91 → true ≡ isLetter b
-  folded-in l u = simp (folded, le-leb 65 (bitAnd b m) l, le-leb (bitAnd b m) 90 (omega arith))
+  pub folded-in : 65 ≤ bitAnd b m → bitAnd b m < 91 → folds m ≡ true → true ≡ isLetter b
+  folded-in l u t = simp (folded t, le-leb 65 (bitAnd b m) l, le-leb (bitAnd b m) 90 (omega arith))
 
-  pub folded-low : bitAnd b m < 65 → false ≡ isLetter b
-  folded-low u = simp (folded, lt-leb 65 (bitAnd b m) u)
+  pub folded-low : bitAnd b m < 65 → folds m ≡ true → false ≡ isLetter b
+  folded-low u t = simp (folded t, lt-leb 65 (bitAnd b m) u)
 
-  pub folded-high : 90 < bitAnd b m → false ≡ isLetter b
-  folded-high l = simp (folded, le-leb 65 (bitAnd b m) (omega arith), lt-leb (bitAnd b m) 90 l)
-
-pub ruleset letters = (bit-five, folded-in, folded-low, folded-high)
+  pub folded-high : 90 < bitAnd b m → folds m ≡ true → false ≡ isLetter b
+  folded-high l t = simp (folded t, le-leb 65 (bitAnd b m) (omega arith), lt-leb (bitAnd b m) 90 l)
 
 pub lead-short : (sep : ℕ → Bool) (xs : List ℕ) → length (lead sep xs) ≤ length xs
 unfolding lead
