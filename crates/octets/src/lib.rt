@@ -1,4 +1,6 @@
 // Bytes: the class of each, the three sets of separators, where a segment ends, and the longest path that is taken.
+#![tactic(auto)]
+
 ghost use Rattle.std.specs.Prelude.{◌≡◌, cond, false, ◌+◌, ◌≤◌, length};
 ghost use Rattle.octets.specs.Class.{class_of, is_letter, is_sep, seps_of};
 ghost use Rattle.octets.specs.Segment.{EndAt};
