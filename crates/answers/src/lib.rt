@@ -1,5 +1,7 @@
 // What a call answers: the nine replies with their numbers, the answer structs, and how a refusal of each looks.
 // One function makes every refusal of a struct, so that one more number in a struct is one edit.
+#![tactic(auto)]
+
 ghost use Rattle.std.specs.Prelude.{◌≡◌};
 ghost use Rattle.answers.specs.Reply.{number_of, refused_view, refused_verdict, bit, judged};
 

@@ -1,5 +1,7 @@
 // Writing into a lent buffer: what every call that writes is made of. Room is decided in `lay` and by the callers of `push`,
 // from the finished length, before the first byte is written.
+#![tactic(auto)]
+
 ghost use Rattle.std.specs.Prelude.{◌≡◌, ◌+◌, ◌^◌, ◌<◌, ◌≤◌, cond, [], ◌∷◌, ◌++◌, length, take, drop};
 ghost use Rattle.answers.specs.Outcome.{give};
 ghost use Rattle.answers.specs.Written.{over, Wrote};

@@ -1,4 +1,6 @@
 // Windows prefixes: the six kinds, how long each is, and the numbers that stand for each.
+#![tactic(auto)]
+
 ghost use Rattle.std.specs.Prelude.{◌≡◌, ℕ, ◌+◌, ◌-◌, ◌^◌, ◌<◌, ◌≤◌, [], ◌∷◌, false, length, drop};
 ghost use Rattle.octets.specs.Class.{is_sep};
 ghost use Rattle.prefixes.specs.Prefix.{begins, capital, drive, drive_exact, name_of, names_of, is_verbatim, verbatim_of, unc_of, device_of, prefix_of, prefix_in, share_len, len_of, end_of_prefix, has_prefix, is_disk, on_disk, drive_figures, name_figures, names_figures, figures_of, parsed_figures};

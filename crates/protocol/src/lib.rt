@@ -1,6 +1,8 @@
 // The text of the ask protocol: a line as a request, an answer's numbers and bytes as a line. What the digits of a word stand
 // for, and which request a word names, are equations (digits, verbs); of the rest it is proved that it is safe whatever the
 // line and puts no more than it says, and tested that it reads and writes as the protocol says.
+#![tactic(auto)]
+
 mod digits;
 mod output;
 mod requests;
