@@ -1,5 +1,7 @@
 // The body of a path: its segments in order, as components, and steps over places from either end. A step reads the
 // bytes that it passes and no others.
+#![tactic(auto)]
+
 ghost use Rattle.std.specs.Prelude.{◌≡◌, ℕ, ◌+◌, ◌-◌, ◌<◌, ◌≤◌, length};
 ghost use Rattle.octets.specs.Class.{is_sep};
 ghost use Rattle.parts.specs.Body.{component_of, dots, sort_at, from};

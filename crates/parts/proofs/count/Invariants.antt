@@ -1,0 +1,10 @@
+use Rattle.std.proofs.Common.{length, ◌+◌, ◌-◌, ◌≡◌, ◌≤◌}
+use Rattle.octets.specs.Class.{is_sep}
+use Rattle.parts.specs.Body.{dots, from}
+use Rattle.parts.proofs.count.Given as goal
+
+abbrev pub invariant-loop-i : goal.invariant-loop-i
+invariant-loop-i l = (l.n ≤ l.i) × (l.n + length (from (is_sep l.k) (dots l.k) l.s l.i) ≡ length (from (is_sep l.k) (dots l.k) l.s l.at))
+
+abbrev pub decreases-loop-i : goal.decreases-loop-i
+decreases-loop-i l = length l.s - l.i
