@@ -1,4 +1,6 @@
 // A path's list of components: what stands ahead of the body, the body, elements from either end, and the tests on the head.
+#![tactic(auto)]
+
 ghost use Rattle.std.specs.Prelude.{◌≡◌, true, false, ℕ, ◌+◌, ◌^◌, ◌<◌, ◌≤◌, length};
 ghost use Rattle.octets.specs.declared.Seps.TheVariants.{Windows};
 ghost use Rattle.prefixes.specs.declared.Parsed.TheVariants.{Nothing};
