@@ -1,4 +1,6 @@
 // What a counted cursor finds in a path's list: whether anything is left, and the part of the path that no step has taken.
+#![tactic(auto)]
+
 ghost use Rattle.std.specs.Prelude.{◌≡◌, false, ℕ, ◌+◌, ◌-◌, ◌^◌, ◌<◌, ◌≤◌, length};
 ghost use Rattle.parts.specs.Elements.{nth_of, nth_back_of, start_or, end_or};
 ghost use Rattle.components.specs.List.{whole_of, list_of, start_of};

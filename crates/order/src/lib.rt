@@ -1,5 +1,7 @@
 // The order of two paths: their lists are compared element by element, heads first and then bodies, in one walk over both
 // by places. What is compared of an element is its value, kind, letter and names, never its extent.
+#![tactic(auto)]
+
 ghost use Rattle.std.specs.Prelude.{◌≡◌, ◌+◌, ◌<◌, ◌≤◌, length, take};
 ghost use Rattle.octets.specs.Class.{is_sep};
 ghost use Rattle.prefixes.specs.Prefix.{parsed_figures};

@@ -1,4 +1,6 @@
 // How one path is set behind another by a set of separators: whether a separator is wanted between the two.
+#![tactic(auto)]
+
 ghost use Rattle.std.specs.Prelude.{◌≡◌};
 ghost use Rattle.seams.specs.Seam.{sep_of, wants};
 

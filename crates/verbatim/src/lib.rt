@@ -1,5 +1,7 @@
 // Join onto a path with a verbatim prefix. The result is a stack, from which a later `..` takes a name off again: what stays
 // of both paths is read from the back, once to count its bytes and once to write them, and no list is stored.
+#![tactic(auto)]
+
 ghost use Rattle.std.specs.Prelude.{◌≡◌, true, ◌∷◌, ◌++◌, ◌+◌, ◌^◌, ◌<◌, ◌≤◌, length, take, drop};
 ghost use Rattle.octets.specs.Class.{limit};
 ghost use Rattle.octets.specs.declared.Seps.TheVariants.{Windows};

@@ -1,0 +1,6 @@
+use Rattle.std.proofs.Common.{rules}
+use Rattle.order.specs.Laws.{skips}
+use Rattle.order.proofs.cmp_bodies.Goals as goal
+
+pub returns : goal.returns
+returns c = search (rules, skips)
