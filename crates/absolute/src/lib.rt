@@ -1,5 +1,7 @@
 // Unix `absolute`: a path made absolute in a current directory that is handed in. A walk over the path's parts writes; where
 // the room may not be enough, another before it finds the finished length.
+#![tactic(auto)]
+
 ghost use Rattle.std.specs.Prelude.{◌≡◌, ◌++◌, ◌+◌, ◌^◌, ◌<◌, ◌≤◌, length, take};
 ghost use Rattle.answers.specs.Outcome.{give};
 ghost use Rattle.answers.specs.Written.{over, Wrote};

@@ -1,5 +1,7 @@
 // Whether a path starts or ends with another, by components, and what remains of it behind the other. Each call is one walk
 // over both paths by places: heads first and then bodies, or for the end bodies first and from the back.
+#![tactic(auto)]
+
 ghost use Rattle.std.specs.Prelude.{◌≡◌, ◌+◌, ◌≤◌, length};
 ghost use Rattle.prefixes.specs.Prefix.{parsed_figures};
 ghost use Rattle.prefixes.specs.Leaves.{NamesIn};

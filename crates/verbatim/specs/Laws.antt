@@ -132,9 +132,9 @@ unfolding PlainV
 append_plain [] m u w = w
 append_plain (v ∷ l) m u w = (u.0, append_plain l m u.1 w)
 
-kept_by : (o : Sift) (v : Spelling) (l : List Spelling) → kept_by o v [] ++ l ≡ kept_by o v l
-kept_by Keep v l = refl
-kept_by (Drop d) v l = refl
+kept_by_lem : (o : Sift) (v : Spelling) (l : List Spelling) → kept_by o v [] ++ l ≡ kept_by o v l
+kept_by_lem Keep v l = refl
+kept_by_lem (Drop d) v l = refl
 
 by_plain : (o : Sift) (v : Spelling) (l : List Spelling) → in_body v.component ≡ true → PlainV l → PlainV (kept_by o v l)
 unfolding PlainV
@@ -152,7 +152,7 @@ unfolding PlainV laid owed kept
 laid_kept l [] c u = rw append-nil
 laid_kept l (v ∷ m) c u =
     laid_kept (added v.component v l) m c u.1
-    ∙ rw (laid_one l v (owed Windows c m) v.component refl u.0, append_assoc, kept_by)
+    ∙ rw (laid_one l v (owed Windows c m) v.component refl u.0, append_assoc, kept_by_lem)
 
 pub own_kept : (l m : List Spelling) (c : ℕ) → PlainV m → pops c (l ++ m) ≡ pops (owed OnlyBack c m) l ++ kept OnlyBack c m
 unfolding PlainV owed kept
@@ -160,7 +160,7 @@ own_kept l [] c u = simp append-nil
 own_kept l (v ∷ m) c u =
     ap (pops c) (sym (append_assoc l (v ∷ []) m))
     ∙ own_kept (l ++ (v ∷ [])) m c u.1
-    ∙ rw (own_one l v (owed OnlyBack c m) v.component refl u.0, append_assoc, kept_by)
+    ∙ rw (own_one l v (owed OnlyBack c m) v.component refl u.0, append_assoc, kept_by_lem)
 
 -- the same from the back, as the loops read it
 owed_last : (k : Seps) (c : ℕ) (l : List Spelling) (v : Spelling) → owed k c (l ++ (v ∷ [])) ≡ owed k (left_by (sift_of k v.component c)) l

@@ -97,9 +97,9 @@ pub write_start : (k : Seps) (s : List ℕ) (lo hi left : ℕ) (b : List ℕ) (n
 write_start k s lo hi left b n h g = stands_none h g
 
 -- `write_text`
-ending_at : (n j : ℕ) (t b : List ℕ) → n ≡ j + length t → ending_at n t b ≡ over (take j b ++ t) b
+ending_at_lem : (n j : ℕ) (t b : List ℕ) → n ≡ j + length t → ending_at n t b ≡ over (take j b ++ t) b
 unfolding ending_at
-ending_at n j t b h = let z : n - length t ≡ j = omega arith in rw z
+ending_at_lem n j t b h = let z : n - length t ≡ j = omega arith in rw z
 
 module _ (p q : List ℕ) (w : Plan) (s : Planned p q w) where
   module _ (r : w.root ≡ true) where
@@ -112,7 +112,7 @@ module _ (p q : List ℕ) (w : Plan) (s : Planned p q w) where
 
     pub text_root : (b after : List ℕ) → after ≡ over (take w.end b ++ (92 ∷ [])) b → after ≡ ending_at w.len (plan_text p q w) b
     unfolding plan_text
-    text_root b after e = e ∙ rw r (sym (ending_at w.len w.end (92 ∷ []) b root_long))
+    text_root b after e = e ∙ rw r (sym (ending_at_lem w.len w.end (92 ∷ []) b root_long))
 
   module _ (r : w.root ≡ false) where
     abbrev front : List ℕ
@@ -131,8 +131,8 @@ module _ (p q : List ℕ) (w : Plan) (s : Planned p q w) where
     pub text_both : (j : ℕ) → w.len ≡ j + length tail → (b one two : List ℕ) → w.len ≤ length b → one ≡ ending_at w.len tail b → two ≡ ending_at j front one → two ≡ ending_at w.len (plan_text p q w) b
     text_both j h b one two g e f =
         let l : j ≡ w.end + length front = omega (arith, both_long) in
-        let a : StandsAt (front ++ tail) b w.len front j one = stands_push front tail j (stands_none (omega (arith, both_long, length-append front tail)) g) (e ∙ ending_at w.len j tail b h) h in
-        rw both_text_lem (stands_all (stands_push [] front w.end a (f ∙ ending_at j w.end front one l) l))
+        let a : StandsAt (front ++ tail) b w.len front j one = stands_push front tail j (stands_none (omega (arith, both_long, length-append front tail)) g) (e ∙ ending_at_lem w.len j tail b h) h in
+        rw both_text_lem (stands_all (stands_push [] front w.end a (f ∙ ending_at_lem j w.end front one l) l))
 
 -- `join`
 module _ (p q : List ℕ) (w : Plan) (s : Planned p q w) where
@@ -146,7 +146,7 @@ module _ (p q : List ℕ) (w : Plan) (s : Planned p q w) where
   pub join_done : (b one two : List ℕ) → w.len ≤ length b → one ≡ over (take (w.end - 0) p) b → two ≡ ending_at w.len (plan_text p q w) one → Wrote (give (verbatim_join p q)) (seen 0 w.len) b two
   join_done b one two h e f =
       let t : take w.end one ≡ take w.end p = rw (e, sub-zero) (take_over (take w.end p) b w.end (length-take-le w.end p s.end_in)) in
-      let d : two ≡ over (verbatim_join p q) b = f ∙ ending_at w.len w.end (plan_text p q w) one s.len ∙ rw (t, e, sub-zero, over_over (take w.end p) (plan_text p q w) b, s.is) in
+      let d : two ≡ over (verbatim_join p q) b = f ∙ ending_at_lem w.len w.end (plan_text p q w) one s.len ∙ rw (t, e, sub-zero, over_over (take w.end p) (plan_text p q w) b, s.is) in
       filled (omega (arith, join_long)) (sym join_long) d
 
 pub ruleset writes = (part_put, write_start, write_in, write_long, write_place, write_end, write_drop, write_room, write_keep)

@@ -1,5 +1,7 @@
 // Views over a path's list: parent, ancestors, file name, stem, extension. All work from the path's end and read only
 // what they need: the last part, and for an ancestor those that it lacks and one more.
+#![tactic(auto)]
+
 ghost use Rattle.std.specs.Prelude.{◌≡◌, ◌+◌, ◌≤◌, length};
 ghost use Rattle.answers.specs.Outcome.{told};
 ghost use Rattle.answers.specs.Reply.{refused_view};

@@ -1,0 +1,12 @@
+use Rattle.std.proofs.Common.{rules}
+use Rattle.matches.specs.StripLaws.{lasts}
+use Rattle.matches.proofs.last_end.Goals as goal
+
+pub returns-then-is_dotted : goal.returns-then-is_dotted
+returns-then-is_dotted c = search (rules, lasts)
+
+pub returns-else-is_dotted : goal.returns-else-is_dotted
+returns-else-is_dotted c = search (rules, lasts)
+
+pub returns-in-Found : goal.returns-in-Found
+returns-in-Found c = search (rules, lasts)
