@@ -1,4 +1,6 @@
 // Join of two paths by a set of separators: document 01's four cases, the first that applies. Each path's start is read once.
+#![tactic(auto)]
+
 ghost use Rattle.std.specs.Prelude.{◌≡◌, ◌++◌, ◌≤◌, length, take};
 ghost use Rattle.octets.specs.Class.{limit};
 ghost use Rattle.octets.specs.declared.Seps.TheVariants.{Unix};

@@ -441,13 +441,16 @@ module _ (k : Seps) (v : dots k ≡ false) (stable : (s : List ℕ) (e : ℕ) �
       up_part : (n : ℕ) → up_by (dotted (start_of k s) s) (list_of k s) (n + 1) ≡ up_by (dotted (start_of k s) s) (list_to (start_of k s) s q.start) n
       up_part n = rw split_list (up_on (list_to (start_of k s) s q.start) (lift q) (kind_leaves q.kind) (dotted (start_of k s) s) n)
 
-      rest_of : (n : ℕ) → up_by (dotted (start_of k s) s) (list_to (start_of k s) s q.start) n ≡ ancestor_of n k (take cut s)
-      unfolding ancestor_of up_by climbs guard cut
-      rest_of zero = rw (length-take-le cut s trimmed.inside)
-      rest_of (suc n) =
+      rest_more : (n : ℕ) → up_by (dotted (start_of k s) s) (list_to (start_of k s) s q.start) (suc n) ≡ ancestor_of (suc n) k (take cut s)
+      rest_more n =
           let t = trimmed in
           let p = stable s cut (at_good k v s cut t.inside t.good) in
           sym (ancestor_up n k (take cut s) ∙ rw (disk_take k v s cut t.inside t.good p, list_take k v s cut t.inside t.good p, t.same))
+
+      rest_of : (n : ℕ) → up_by (dotted (start_of k s) s) (list_to (start_of k s) s q.start) n ≡ ancestor_of n k (take cut s)
+      unfolding ancestor_of up_by climbs guard cut
+      rest_of zero = rw (length-take-le cut s trimmed.inside)
+      rest_of (suc n) = rest_more n
 
       none_taken : up_by (dotted (start_of k s) s) (list_to (start_of k s) s q.start) 0 ≡ give (seen 0 cut)
       unfolding up_by climbs guard cut
