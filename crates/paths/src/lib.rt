@@ -1,5 +1,7 @@
 // The public calls. Each takes the mode as a number and any bytes, and refuses what document 01 says is refused; none has
 // a `requires`. What a call promises is its definition in specs/, a chain of guards in front of what was asked for.
+#![tactic(auto)]
+
 mod absolutes;
 mod pairs;
 mod steps;

@@ -1,4 +1,6 @@
 // A path with another file name, or with another extension.
+#![tactic(auto)]
+
 ghost use Rattle.std.specs.Prelude.{◌≡◌, ℕ, ◌≤◌, length};
 ghost use Rattle.octets.specs.Class.{is_sep, limit};
 ghost use Rattle.answers.specs.Outcome.{give};
