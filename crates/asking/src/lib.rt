@@ -1,5 +1,7 @@
 // A request of the ask protocol, answered by the library's public calls. Proved: every function is safe whatever the line, and no
 // answer is longer than protocol::ANSWER. That each answer is put together as the protocol says is tested against stored answers.
+#![tactic(auto)]
+
 mod pairs;
 mod seen;
 mod steps;

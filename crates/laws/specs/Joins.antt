@@ -24,7 +24,7 @@ use Rattle.cursors.specs.declared.Span.{Span}
 use Rattle.cursors.specs.Rest.{span, view_of, left_end, empty_at, dotted, behind_dot, rest_of}
 use Rattle.order.specs.Values.{Value, value_of, value_by, values_in, values_of}
 use Rattle.order.specs.Order.{cmp_value}
-use Rattle.order.specs.Ordered.{each, value_exact}
+use Rattle.order.proofs.Ordered.{each, value_exact}
 use Rattle.matches.specs.Match.{starts_with, starts_of}
 use Rattle.matches.specs.Strip.{strip_of}
 use Rattle.joins.specs.Join.{joined}

@@ -7,7 +7,7 @@ use Rattle.std.proofs.lemmas.List.{reverse-append, reverse-reverse}
 use Rattle.octets.specs.declared.Seps.{Seps}
 use Rattle.order.specs.Values.{Value, values_of}
 use Rattle.order.specs.Order.{cmp_value}
-use Rattle.order.specs.Ordered.{each, itself, value_ordered, value_exact}
+use Rattle.order.proofs.Ordered.{each, itself, value_ordered, value_exact}
 use Rattle.matches.specs.Match.{starts_with, ends_with, starts_of, ends_of}
 
 starts_rest : (l m : List Value) → starts_with l m ≡ true → (r : List Value) × (l ≡ m ++ r)

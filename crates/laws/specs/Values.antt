@@ -33,7 +33,7 @@ use Rattle.components.specs.Laws.{dir_few, open_start}
 use Rattle.cursors.specs.Rest.{is_prefix}
 use Rattle.order.specs.Values.{Value, valued, values_in, values_of}
 use Rattle.order.specs.Leaves.{dir_rank, dir_values}
-use Rattle.order.specs.Heads.{values_append, dir_values_lem}
+use Rattle.order.proofs.HeadLaws.{values_append, dir_values_lem}
 use Rattle.matches.specs.Laws.{plain_first}
 use Rattle.laws.specs.Walks.{stands}
 

@@ -30,10 +30,11 @@ use Rattle.components.specs.Leaves.{OpenAt}
 use Rattle.order.specs.declared.Ordering.{Ordering}
 use Rattle.order.specs.Values.{Value, valued, prefix_value, value_of, values_in, values_of}
 use Rattle.order.specs.Order.{cmp_value}
-use Rattle.order.specs.Ordered.{each, itself, value_ordered}
+use Rattle.order.proofs.Ordered.{each, itself, value_ordered}
 use Rattle.order.specs.Leaves.{dir_rank, dir_values, head_values, body_values}
-use Rattle.order.specs.Heads.{values_append, values_whole, open_kind, dot_alone, kind_less, kind_more, prefix_values, head_values_lem, no_head}
-use Rattle.order.specs.Laws.{names_here}
+use Rattle.order.proofs.HeadLaws.{values_append, values_whole, open_kind, dot_alone, kind_less, kind_more, head_values_lem, no_head}
+use Rattle.order.specs.Leaves.{prefix_values}
+use Rattle.order.proofs.Laws.{names_here}
 use Rattle.matches.specs.Match.{is_equal, same, starts_with, ends_with, ends_of}
 use Rattle.matches.specs.Laws.{bad, by_prefix}
 use Rattle.matches.specs.Leaves.{is_dot, Begun, same_prefix, front_of, Ahead}

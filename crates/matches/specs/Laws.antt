@@ -40,10 +40,11 @@ use Rattle.order.specs.declared.Heads.{Heads}
 use Rattle.order.specs.declared.Heads.TheVariants.{Same, Apart, First, Second}
 use Rattle.order.specs.Values.{Value, valued, prefix_value, value_of, values_in, values_of}
 use Rattle.order.specs.Order.{cmp_value}
-use Rattle.order.specs.Ordered.{each}
+use Rattle.order.proofs.Ordered.{each}
 use Rattle.order.specs.Leaves.{dir_rank, dir_values, head_values, body_values, is_nil, meet_then, meet, meet_first, meet_second, SkipAt}
-use Rattle.order.specs.Heads.{values_whole, lead_kind, body_kind, prefix_values, head_values_lem, no_head, whole_same, whole_apart, whole_first_end, whole_first_more, whole_second_end, whole_second_more}
-use Rattle.order.specs.Laws.{values_none, values_found, heads_bare, heads_second, heads_first, heads_both, skip_meets}
+use Rattle.order.proofs.HeadLaws.{values_whole, body_kind, head_values_lem, no_head, whole_same, whole_apart, whole_first_end, whole_first_more, whole_second_end, whole_second_more}
+use Rattle.order.specs.Leaves.{lead_kind, prefix_values}
+use Rattle.order.proofs.Laws.{values_none, values_found, heads_bare, heads_second, heads_first, heads_both, skip_meets}
 use Rattle.matches.specs.declared.After.{After}
 use Rattle.matches.specs.declared.After.TheVariants.{Off, Head, Body}
 use Rattle.matches.specs.Match.{is_equal, starts_with, starts_of}

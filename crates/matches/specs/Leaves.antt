@@ -19,7 +19,7 @@ use Rattle.cursors.specs.Rest.{is_prefix, left_end, empty_at, dotted}
 use Rattle.order.specs.declared.Heads.{Heads}
 use Rattle.order.specs.declared.Heads.TheVariants.{Same, Apart, First, Second}
 use Rattle.order.specs.Values.{Value, prefix_value, values_in}
-use Rattle.order.specs.Heads.{lead_kind}
+use Rattle.order.specs.Leaves.{lead_kind}
 use Rattle.order.specs.Leaves.{dir_rank, head_values, body_values, is_nil}
 use Rattle.matches.specs.declared.After.{After}
 use Rattle.matches.specs.declared.After.TheVariants.{Off, Head, Body}

@@ -1,5 +1,7 @@
 // The answers of the public calls in numbers, in the order of docs/PROTOCOL.md: the reply's number is returned, the others are put into
 // an array. The program `ask`, the firmware's exports and those for tests say them by these functions alone.
+#![tactic(auto)]
+
 ghost use Rattle.std.specs.Prelude.{◌≡◌, ◌∷◌, length};
 ghost use Rattle.numbers.specs.Numbers.{prefix_numbers, held_prefix, component_number, taken_prefix, taken_number, step_numbers, view_numbers, verdict_numbers};
 

@@ -3,6 +3,9 @@ use Rattle.std.specs.Prelude.{ℕ, ◌+◌, ◌-◌, ◌*◌, ◌<◌, ◌≤◌
 use Rattle.octets.specs.Class.{is_sep}
 use Rattle.octets.specs.declared.Seps.{Seps}
 use Rattle.octets.specs.declared.Seps.TheVariants.{Unix, Windows, Verbatim}
+use Rattle.prefixes.specs.declared.Parsed.{Parsed}
+use Rattle.prefixes.specs.declared.Parsed.TheVariants.{Nothing, Is}
+use Rattle.prefixes.specs.Prefix.{figures_of}
 use Rattle.parts.specs.declared.Element.{Element}
 use Rattle.parts.specs.declared.Kind.{Kind}
 use Rattle.parts.specs.declared.Kind.TheVariants.{Dot, DotDot, Name}
@@ -15,7 +18,7 @@ use Rattle.order.specs.declared.Ordering.{Ordering}
 use Rattle.order.specs.declared.Ordering.TheVariants.{Less, Equal, Greater}
 use Rattle.order.specs.declared.Heads.{Heads}
 use Rattle.order.specs.declared.Heads.TheVariants.{Same, Apart, First, Second}
-use Rattle.order.specs.Values.{Value, valued, values_in}
+use Rattle.order.specs.Values.{Value, valued, prefix_value, values_in}
 use Rattle.order.specs.Order.{cmp_bytes, cmp_value}
 
 -- n is the smaller of a and b
@@ -127,3 +130,13 @@ pub record SkipAt (k : Seps) (s : List ℕ) (i : ℕ) (h : Seps) (t : List ℕ) 
   pub alike : values_in s ahead ≡ values_in t ahead
   pub inside : i + n ≤ length s
   pub within : j + n ≤ length t
+
+-- the kind of a list's first value; 4 stands for no value, since nothing is asked of one then
+abbrev pub lead_kind : List Value → ℕ
+lead_kind [] = 4
+lead_kind (v ∷ l) = v.kind
+
+-- the value of a prefix, if there is one
+abbrev pub prefix_values : List ℕ → Parsed → List Value
+prefix_values s Nothing = []
+prefix_values s (Is p) = prefix_value s (figures_of p) ∷ []

@@ -2,6 +2,4 @@ pub mod Values
 pub mod Order
 pub mod Ordered
 pub mod Leaves
-pub mod Heads
-pub mod Laws
 pub mod Eights

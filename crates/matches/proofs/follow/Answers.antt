@@ -1,6 +1,6 @@
 use Rattle.std.proofs.Common.{rules}
 use Rattle.matches.specs.Laws.{follows}
-use Rattle.order.specs.Laws.{headings}
+use Rattle.order.proofs.Laws.{headings}
 use Rattle.matches.proofs.follow.Goals as goal
 
 pub meet_heads-m-requires : goal.meet_heads-m-requires

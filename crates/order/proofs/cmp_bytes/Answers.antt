@@ -1,5 +1,5 @@
 use Rattle.std.proofs.Common.{rules}
-use Rattle.order.specs.Laws.{strings}
+use Rattle.order.proofs.Laws.{strings}
 use Rattle.order.proofs.cmp_bytes.Goals as goal
 
 pub returns-then-a-i : goal.returns-then-a-i

@@ -1,5 +1,5 @@
 use Rattle.std.proofs.Common.{rules}
-use Rattle.order.specs.Laws.{values}
+use Rattle.order.proofs.Laws.{values}
 use Rattle.order.proofs.cmp_part.Goals as goal
 
 pub returns-then-a-b : goal.returns-then-a-b

@@ -1,5 +1,5 @@
 use Rattle.std.proofs.Common.{rules}
-use Rattle.order.specs.Laws.{headings, orders}
+use Rattle.order.proofs.Laws.{headings, orders}
 use Rattle.order.proofs.compare_behind.Goals as goal
 
 pub meet_heads-m-requires : goal.meet_heads-m-requires

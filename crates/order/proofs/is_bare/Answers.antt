@@ -1,5 +1,5 @@
 use Rattle.std.proofs.Common.{rules}
-use Rattle.order.specs.Laws.{bodies}
+use Rattle.order.proofs.Laws.{bodies}
 use Rattle.order.proofs.is_bare.Goals as goal
 
 pub returns-in-Nothing : goal.returns-in-Nothing

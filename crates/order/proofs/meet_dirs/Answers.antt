@@ -1,5 +1,5 @@
 use Rattle.std.proofs.Common.{rules}
-use Rattle.order.specs.Laws.{headings}
+use Rattle.order.proofs.Laws.{headings}
 use Rattle.order.proofs.meet_dirs.Goals as goal
 
 pub returns-then-a-b : goal.returns-then-a-b

@@ -1,5 +1,5 @@
 use Rattle.std.proofs.Common.{rules}
-use Rattle.order.specs.Laws.{headings}
+use Rattle.order.proofs.Laws.{headings}
 use Rattle.order.proofs.meet_heads.Goals as goal
 
 pub returns-in-Nothing-q : goal.returns-in-Nothing-q

@@ -1,5 +1,5 @@
 use Rattle.std.proofs.Common.{rules}
-use Rattle.order.specs.Laws.{skips}
+use Rattle.order.proofs.Laws.{skips}
 use Rattle.order.proofs.skip.Goals as goal
 
 pub returns-then-seps_number : goal.returns-then-seps_number

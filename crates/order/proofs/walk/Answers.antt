@@ -1,5 +1,5 @@
 use Rattle.std.proofs.Common.{rules}
-use Rattle.order.specs.Laws.{bodies}
+use Rattle.order.proofs.Laws.{bodies}
 use Rattle.parts.specs.Laws.{walks}
 use Rattle.order.proofs.walk.Goals as goal
 

@@ -1,6 +1,6 @@
 -- How heads meet, and what follows for two whole lists: an element of a head comes before every part that can stand in its
 -- place in the other path.
-use Rattle.std.specs.Prelude.{ℕ, suc, ◌+◌, ◌-◌, ◌<◌, ◌≤◌, ◌≡◌, Bool, true, false, length, drop, eqb}
+use Rattle.std.specs.Prelude.{ℕ, suc, ◌<◌, ◌≤◌, ◌≡◌, Bool, true, false, length, drop, eqb}
 use Rattle.std.proofs.Common.{arith, sym, ◌∙◌, ne_eqb, eqb-true}
 use Rattle.std.proofs.Math.Path.{refl}
 use mathlib.Core.List.{List, [], ◌∷◌, ◌++◌, map-append}
@@ -13,7 +13,7 @@ use Rattle.prefixes.specs.declared.Prefix.{Prefix}
 use Rattle.prefixes.specs.declared.Prefix.TheVariants.{Verbatim, VerbatimUnc, VerbatimDisk, DeviceNs, Unc, Disk}
 use Rattle.prefixes.specs.declared.Parsed.{Parsed}
 use Rattle.prefixes.specs.declared.Parsed.TheVariants.{Nothing, Is}
-use Rattle.prefixes.specs.Prefix.{prefix_in, end_of_prefix, figures_of}
+use Rattle.prefixes.specs.Prefix.{prefix_in, end_of_prefix}
 use Rattle.parts.specs.declared.Element.{Element}
 use Rattle.parts.specs.declared.Kind.TheVariants.{Dot as LoneDot, DotDot, Name}
 use Rattle.parts.specs.declared.Sort.{Sort}
@@ -29,10 +29,10 @@ use Rattle.order.specs.declared.Ordering.{Ordering}
 use Rattle.order.specs.declared.Ordering.TheVariants.{Less, Greater}
 use Rattle.order.specs.declared.Heads.{Heads}
 use Rattle.order.specs.declared.Heads.TheVariants.{Same, Apart, First, Second}
-use Rattle.order.specs.Values.{Value, valued, prefix_value, value_of, values_in, values_of}
+use Rattle.order.specs.Values.{Value, valued, value_of, values_in, values_of}
 use Rattle.order.specs.Order.{lexical, cmp_value, cmp_values}
-use Rattle.order.specs.Ordered.{each, itself, value_ordered, nat_less, nat_more}
-use Rattle.order.specs.Leaves.{dir_rank, dir_values, head_values, body_values, is_nil, meet, order_of}
+use Rattle.order.proofs.Ordered.{each, itself, value_ordered, nat_less, nat_more}
+use Rattle.order.specs.Leaves.{lead_kind, prefix_values, dir_rank, dir_values, head_values, body_values, is_nil, meet, order_of}
 
 -- ---- the values of a whole list
 pub values_append : (s : List ℕ) (l m : List Element) → values_in s (l ++ m) ≡ values_in s l ++ values_in s m
@@ -44,11 +44,6 @@ unfolding values_of head_values body_values whole_of body_list
 values_whole k s g o = rw (← whole_list k s g o) (values_append s (head_list g) (body_list g s))
 
 -- ---- kinds: of a head at most 3, of a body at least 3
--- the kind of a list's first value; 4 stands for no value, since nothing is asked of one then
-abbrev pub lead_kind : List Value → ℕ
-lead_kind [] = 4
-lead_kind (v ∷ l) = v.kind
-
 put_kind : (s : List ℕ) (q : Sort) (i n : ℕ) (l : List Element) → 3 ≤ lead_kind (values_in s l) → 3 ≤ lead_kind (values_in s (put q i n l))
 unfolding values_in
 put_kind s Skip i n l h = h
@@ -213,10 +208,6 @@ module _ (l m : List Value) where
   meet_second_more w (u ∷ a) (v ∷ b) e z = each (cmp_value u v) (λ x. bad (cc)) (λ x. rw x (meet_second_more w a b (rw x at e) z.1)) (λ x. bad (cc))
 
 -- ---- the values of a head
-abbrev pub prefix_values : List ℕ → Parsed → List Value
-prefix_values s Nothing = []
-prefix_values s (Is p) = prefix_value s (figures_of p) ∷ []
-
 prefix_values_lem : (s : List ℕ) (p : Parsed) (e : ℕ) → values_in s (prefix_part p e) ≡ prefix_values s p
 unfolding values_in
 prefix_values_lem s Nothing e = refl

@@ -44,9 +44,9 @@ use Rattle.order.specs.declared.Heads.{Heads}
 use Rattle.order.specs.declared.Heads.TheVariants.{Same, Apart, First, Second}
 use Rattle.order.specs.Values.{valued, prefix_value, value_by, value_of, values_in, values_of}
 use Rattle.order.specs.Order.{and_then, cmp_nat, lexical, cmp_bytes, cmp_value, cmp_values, compare_of}
-use Rattle.order.specs.Ordered.{each, itself, nat_ordered, value_ordered, nat_less, nat_more, nat_same, lists_skip}
+use Rattle.order.proofs.Ordered.{itself, nat_ordered, value_ordered, nat_less, nat_more, nat_same, lists_skip}
 use Rattle.order.specs.Leaves.{Least, Differ, cmp_from, rank_of, dir_rank, dir_values, head_values, body_values, is_nil, meet_then, meet, order_of, meet_first, meet_second, seps_number, SeamAt, SkipAt}
-use Rattle.order.specs.Heads.{values_append, kind_less, kind_more, cmp_meet, meet_skip, whole_same, whole_apart, whole_first_end, whole_first_more, whole_second_end, whole_second_more, head_values_lem}
+use Rattle.order.proofs.HeadLaws.{values_append, kind_less, kind_more, cmp_meet, meet_skip, whole_same, whole_apart, whole_first_end, whole_first_more, whole_second_end, whole_second_more, head_values_lem}
 
 -- `least`
 module _ (a b : ℕ) where

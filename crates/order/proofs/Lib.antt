@@ -1,0 +1,3 @@
+pub mod Ordered
+pub mod HeadLaws
+pub mod Laws
