@@ -1,6 +1,8 @@
 // What the cab's firmware links: prefix, one step from either end, join and compare as C functions on numbers and byte slices.
 // include/bridlestep.h is the other side of it. Each returns its reply's number and hands its other numbers back through a reference.
 // The promise is that of the call below it: these numbers, in this order, are the numbers of that call's answer.
+#![tactic(auto)]
+
 ghost use Rattle.std.specs.Prelude.{◌≡◌, ◌∷◌, [], length};
 ghost use Rattle.answers.specs.Outcome.{told};
 ghost use Rattle.answers.specs.Reply.{refused_verdict};

@@ -1,5 +1,7 @@
 // Every public call as a C export, for tests and benchmarks alone: no user links this. A call returns its reply's number and puts
 // its other numbers into `answer`, in the order of docs/PROTOCOL.md; a call that writes takes the buffer besides.
+#![tactic(auto)]
+
 use paths::Cursor;
 
 #[unsafe(no_mangle)]
