@@ -1,12 +1,12 @@
 -- Laws of the guards: where a chain stops, and where it goes on.
-use Rattle.std.specs.Prelude.{ℕ, ◌<◌, ◌≤◌, ◌≡◌, refl, Bool, true, false, List, length}
+use Rattle.std.specs.Prelude.{ℕ, ◌<◌, ◌≤◌, ◌≡◌, Bool, true, false, List, length}
 use Rattle.std.proofs.Math.Path.{sym}
 use Rattle.std.proofs.Common.{◌∙◌, lt-ltb, le-ltb}
 use Rattle.octets.specs.Class.{limit}
 use Rattle.answers.specs.declared.Reply.{Reply}
 use Rattle.answers.specs.declared.Reply.TheVariants.{Mode, Length, Absent}
 use Rattle.answers.specs.Reply.{bit, judged}
-use Rattle.answers.specs.Outcome.{Outcome, refuse, give, told, guard, in_mode, short, present}
+use Rattle.answers.specs.Outcome.{Outcome, give, told, guard, in_mode, short, present}
 
 module _ {A : Type 0} (f : Reply → A) (r : Reply) (o : Outcome A) where
   pub stops : {b : Bool} → b ≡ true → told f (guard b r o) ≡ f r

@@ -1,5 +1,5 @@
 -- Laws of a path's list: one a way through each function, and what they rest on.
-use Rattle.std.specs.Prelude.{ℕ, zero, suc, ◌+◌, ◌-◌, ◌*◌, ◌^◌, ◌<◌, ◌≤◌, ◌≡◌, List, [], ◌∷◌, ◌++◌, Bool, true, get_or, drop, eqb, ltb}
+use Rattle.std.specs.Prelude.{ℕ, ◌+◌, ◌-◌, ◌*◌, ◌^◌, ◌<◌, ◌≤◌, ◌≡◌, List, [], ◌∷◌, Bool, true, get_or, drop, eqb, ltb}
 use Rattle.std.specs.Int.{w64}
 use Rattle.std.proofs.Common.{Fits, ◌∙◌}
 use native.Mathlib.Omega.{arith}
@@ -20,7 +20,6 @@ use Rattle.prefixes.specs.declared.Parsed.TheVariants.{Nothing, Is}
 use Rattle.prefixes.specs.Prefix.{turned, begins, capital, drive, drive_exact, names_of, verbatim_of, unc_of, is_verbatim, device_of, prefix_of, prefix_in, end_of_prefix, has_prefix, is_disk}
 use Rattle.prefixes.specs.Laws.{by_cond, drive_long, drive_disk, bare_none, end_within, drive_told}
 use Rattle.parts.specs.declared.Component.TheVariants.{Prefix as Prefixed, RootDir, CurDir}
-use Rattle.parts.specs.declared.Element.{Element}
 use Rattle.parts.specs.declared.Item.{Item}
 use Rattle.parts.specs.declared.Item.TheVariants.{Missing, Here}
 use Rattle.parts.specs.declared.Part.{Part}
@@ -36,7 +35,7 @@ use Rattle.components.specs.declared.Dir.{Dir}
 use Rattle.components.specs.declared.Dir.TheVariants.{Bare, Root, Implied, Dot}
 use Rattle.components.specs.declared.Start.{Start}
 use Rattle.components.specs.declared.Body.{Body}
-use Rattle.components.specs.List.{sep_at, dot_at, prefix_seps, inner_seps, prefix_dir, behind_prefix, dir_of, dir_len, start_of, prefix_part, dir_part, head_list, body_list, whole_of, list_of, rootless, is_root, has_root, wants_prefix, is_absolute}
+use Rattle.components.specs.List.{sep_at, dot_at, prefix_seps, inner_seps, prefix_dir, behind_prefix, dir_of, dir_len, start_of, prefix_part, dir_part, head_list, body_list, whole_of, list_of, is_root, has_root, wants_prefix, is_absolute}
 use Rattle.components.specs.Leaves.{start_with, OpenAt, BodyAt, CountAt}
 
 -- `sep_at`, `dot_at`

@@ -7,7 +7,7 @@ use Rattle.std.proofs.Math.Nat.{add-zero, add-suc, suc-add, add-sub_cancel_left}
 use native.Mathlib.Omega.{arith}
 use Rattle.std.proofs.Math.Path.{◌≡◌, refl, sym, ap}
 use mathlib.Core.List.{List, [], ◌∷◌, ◌++◌, append-nil}
-use Rattle.std.specs.Prelude.{Bool, true, false, cond, take, ltb, eqb}
+use Rattle.std.specs.Prelude.{Bool, true, false, take, ltb, eqb}
 use Rattle.std.proofs.Math.ListN.{length, get_or, drop, length-drop, length-append}
 use Rattle.std.proofs.Math.Seq.{drop-drop, length-take-le, get_or-take}
 use Rattle.std.proofs.lemmas.List.{drop-append-le}

@@ -1,5 +1,5 @@
 -- Windows prefixes. Document 01, "Windows prefixes".
-use Rattle.std.specs.Prelude.{ℕ, ◌+◌, ◌-◌, ◌≤◌, ◌≡◌, List, [], ◌∷◌, Bool, true, false, not, cond, length, get_or, take, drop, eqb, ltb, leb}
+use Rattle.std.specs.Prelude.{ℕ, ◌+◌, ◌-◌, List, [], ◌∷◌, Bool, true, false, not, cond, length, get_or, take, drop, eqb, ltb}
 use Rattle.octets.specs.Class.{is_letter, is_sep}
 use Rattle.octets.specs.Segment.{lead}
 use Rattle.octets.specs.declared.Seps.{Seps}

@@ -1,18 +1,16 @@
 -- Laws of the words, digits and verbs: one a way through each function.
-use Prim.Native.Nat.{ℕ, zero, suc, ◌+◌, ◌-◌, ◌*◌, ◌^◌, ◌<◌, ◌≤◌}
+use Prim.Native.Nat.{ℕ, suc, ◌+◌, ◌-◌, ◌*◌, ◌^◌, ◌<◌, ◌≤◌}
 use native.Mathlib.Omega.{arith}
-use Rattle.std.proofs.Common.{not-suc-le-zero, ap, ◌∙◌, length-drop}
+use Rattle.std.proofs.Common.{ap, ◌∙◌}
 use Rattle.std.proofs.Math.Numerals.{add-one}
-use Rattle.std.specs.Prelude.{◌≡◌, Bool, true, false, cond, length, get_or, take, drop, set, eqb, ltb, leb}
+use Rattle.std.specs.Prelude.{◌≡◌, Bool, true, false, length, get_or, take, drop, set, eqb}
 use Rattle.std.proofs.Math.Path.{refl, sym}
 use mathlib.Core.List.{List, [], ◌∷◌, ◌++◌, append-nil, append_assoc}
 use Rattle.std.proofs.Math.ListN.{drop_of_length-le}
 use Rattle.std.proofs.Math.Seq.{drop-cons, take-suc-set}
 use borrow.Author.Tests.{eq-eqb, ne_eqb, lt-ltb, le-ltb, le-leb, lt-leb}
-use Rattle.protocol.specs.declared.digits.Number.{Number}
 use Rattle.protocol.specs.declared.digits.Number.TheVariants.{Bad, Is}
 use Rattle.protocol.specs.declared.digits.Size.{Size}
-use Rattle.protocol.specs.declared.digits.Size.TheVariants.{Bad as Odd, Is as Of}
 use Rattle.protocol.specs.declared.requests.Request.{Request}
 use Rattle.protocol.specs.declared.requests.Ended.{Ended}
 use Rattle.protocol.specs.declared.requests.Word.{Word}

@@ -1,5 +1,5 @@
 -- What is known of a request that was read: its paths lie within their buffers.
-use Rattle.std.specs.Prelude.{ℕ, ◌≤◌}
+use Rattle.std.specs.Prelude.{◌≤◌}
 use Rattle.protocol.specs.declared.requests.Request.{Request}
 use Rattle.protocol.specs.declared.requests.Word.{Word}
 use Rattle.protocol.specs.declared.requests.Word.TheVariants.{Bad as Odd, Is}

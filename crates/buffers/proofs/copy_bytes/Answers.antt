@@ -1,4 +1,4 @@
-use Rattle.std.proofs.Common.{◌≤◌, refl, sym, arith, zero-le}
+use Rattle.std.proofs.Common.{refl, sym, arith, zero-le}
 use Rattle.std.proofs.Math.ListN.{length-set}
 use Rattle.buffers.specs.Laws.{over_none, over_copy}
 use Rattle.buffers.proofs.copy_bytes.Goals as goal
