@@ -1,9 +1,9 @@
 -- Laws of the rest that the ends alone tell: a part that was found leaves the parts from its place on, and these are behind the front.
-use Prim.Native.Nat.{ℕ, zero, suc, ◌+◌, ◌-◌, ◌*◌, ◌^◌, ◌<◌, ◌≤◌}
+use Prim.Native.Nat.{ℕ, zero, suc, ◌+◌, ◌-◌, ◌<◌, ◌≤◌}
 use Rattle.std.specs.Int.{w64}
 use Rattle.std.proofs.Common.{Fits, arith, not-suc-le-zero, le_of_suc-le-suc, ◌∙◌, take-append-drop, length-take-le, lt-ltb, le-ltb, ne_eqb}
 use Rattle.std.proofs.Math.Numerals.{add-one}
-use Rattle.std.specs.Prelude.{◌≡◌, Bool, true, false, cond, length, take}
+use Rattle.std.specs.Prelude.{◌≡◌, Bool, true, false, length, take}
 use Rattle.std.proofs.Math.Path.{refl, sym, ap}
 use mathlib.Core.List.{List, [], ◌∷◌, ◌++◌, append_assoc}
 use Rattle.std.proofs.lemmas.Bool.{false≢true}
@@ -16,16 +16,16 @@ use Rattle.octets.specs.declared.Seps.{Seps}
 use Rattle.prefixes.specs.Prefix.{on_disk}
 use Rattle.parts.specs.declared.Element.{Element}
 use Rattle.parts.specs.declared.Item.{Item}
-use Rattle.parts.specs.declared.Item.TheVariants.{Missing, Here}
+use Rattle.parts.specs.declared.Item.TheVariants.{Here}
 use Rattle.parts.specs.declared.Part.{Part}
 use Rattle.parts.specs.declared.Piece.{Piece}
-use Rattle.parts.specs.declared.Piece.TheVariants.{Nothing, Found}
+use Rattle.parts.specs.declared.Piece.TheVariants.{Found}
 use Rattle.parts.specs.declared.Sort.{Sort}
 use Rattle.parts.specs.declared.Sort.TheVariants.{Skip, Is as Sorted}
 use Rattle.parts.specs.Body.{sort_of, put, rest, from, dots}
-use Rattle.parts.specs.Elements.{nth_of, nth_back_of, start_or, end_or, Upto}
+use Rattle.parts.specs.Elements.{nth_of, nth_back_of, start_or, end_or}
 use Rattle.parts.specs.Steps.{lift, raised, within, LastAt}
-use Rattle.parts.specs.Laws.{upto_nth, nth_behind, nth_inside, back_behind, back_inside_of, last_found}
+use Rattle.parts.specs.Laws.{nth_inside, back_behind, back_inside_of, last_found}
 use Rattle.prefixes.specs.declared.Parsed.{Parsed}
 use Rattle.prefixes.specs.declared.Parsed.TheVariants.{Nothing as Bare, Is as Prefixed}
 use Rattle.components.specs.declared.Start.{Start}
@@ -35,9 +35,9 @@ use Rattle.components.specs.Leaves.{OpenAt, BodyAt, CountAt}
 use Rattle.components.specs.Laws.{whole_list, whole_body, head_few, open_start, last_part, last_behind}
 use Rattle.cursors.specs.declared.Span.{Span}
 use Rattle.cursors.specs.declared.Seen.{Seen}
-use Rattle.cursors.specs.declared.Seen.TheVariants.{Unknown, Is}
+use Rattle.cursors.specs.declared.Seen.TheVariants.{Is}
 use Rattle.cursors.specs.declared.Remains.{Remains}
-use Rattle.cursors.specs.declared.Remains.TheVariants.{Beyond as TooMany, Is as Rests}
+use Rattle.cursors.specs.declared.Remains.TheVariants.{Is as Rests}
 use Rattle.cursors.specs.Rest.{span, left_end, right_end, dotted, behind_dot, rest_of, rest_asked}
 use Rattle.cursors.specs.Leaves.{In, SeenAt}
 use Rattle.cursors.specs.Laws.{left_zero, left_later, dot_far, dot_plain, back_small}

@@ -1,17 +1,16 @@
 -- Laws of the cursor: one a way through each function.
-use Rattle.std.specs.Prelude.{ℕ, ◌+◌, ◌-◌, ◌*◌, ◌^◌, ◌<◌, ◌≤◌, refl, List, Bool, true, false, cond, length, eqb, ltb}
+use Rattle.std.specs.Prelude.{ℕ, ◌+◌, ◌-◌, ◌*◌, ◌^◌, ◌<◌, ◌≤◌, List, Bool, true, false, length, eqb, ltb}
 use Rattle.std.specs.Int.{w64}
-use Rattle.std.proofs.Common.{Fits, arith, sym, ap, ◌∙◌}
+use Rattle.std.proofs.Common.{Fits, arith, sym, ◌∙◌}
 use Rattle.std.proofs.Math.Path.{◌≡◌}
 use borrow.Author.Tests.{eq-eqb, ne_eqb, lt-ltb, le-ltb, ltb-true, ltb-false, eqb-true, eqb-false}
 use Rattle.octets.specs.Laws.{split}
 use Rattle.octets.specs.declared.Seps.{Seps}
-use Rattle.prefixes.specs.declared.Parsed.TheVariants.{Nothing}
 use Rattle.prefixes.specs.Prefix.{on_disk}
 use Rattle.parts.specs.declared.Element.{Element}
 use Rattle.parts.specs.declared.Item.{Item}
-use Rattle.parts.specs.declared.Item.TheVariants.{Missing, Here}
-use Rattle.parts.specs.Elements.{nth_of, nth_back_of, start_or, end_or, Upto}
+use Rattle.parts.specs.declared.Item.TheVariants.{Here}
+use Rattle.parts.specs.Elements.{nth_of, nth_back_of, start_or, end_or}
 use Rattle.parts.specs.Laws.{upto_nth}
 use Rattle.components.specs.declared.Start.{Start}
 use Rattle.components.specs.List.{dot_at, start_of, whole_of, list_of}
@@ -20,7 +19,6 @@ use Rattle.components.specs.Laws.{whole_list, list_upto}
 use Rattle.cursors.specs.declared.Left.{Left}
 use Rattle.cursors.specs.declared.Left.TheVariants.{Beyond, Spent, Some}
 use Rattle.cursors.specs.declared.Span.{Span}
-use Rattle.cursors.specs.declared.Remains.{Remains}
 use Rattle.cursors.specs.declared.Remains.TheVariants.{Beyond as TooMany, Is as Rests}
 use Rattle.cursors.specs.Rest.{left_of, span, prefix_kind, is_prefix, left_end, right_end, empty_at, is_bare, dotted, behind_dot, rest_of, rest_asked}
 use Rattle.cursors.specs.Leaves.{In}

@@ -1,5 +1,5 @@
 -- Laws of the end: one a way through each function of the walk from the back, and what they rest on.
-use Rattle.std.specs.Prelude.{ℕ, ◌+◌, ◌-◌, ◌<◌, ◌≤◌, ◌≡◌, Bool, true, false, cond, not, length, eqb, ltb}
+use Rattle.std.specs.Prelude.{ℕ, ◌+◌, ◌<◌, ◌≤◌, ◌≡◌, Bool, true, false, cond, not, length, eqb, ltb}
 use Rattle.std.proofs.Common.{arith, sym, ap, ◌∙◌, ne_eqb, eqb-true, ltb-true, ltb-false}
 use Rattle.std.proofs.Math.Path.{refl}
 use mathlib.Core.List.{List, [], ◌∷◌, ◌++◌, reverse, reverse-append, reverse-cons, append-nil, append_assoc}
@@ -8,7 +8,6 @@ use Rattle.std.proofs.lemmas.Bool.{eqb-false}
 use Rattle.octets.specs.Class.{is_sep}
 use Rattle.octets.specs.Laws.{split}
 use Rattle.octets.specs.declared.Seps.{Seps}
-use Rattle.answers.specs.Outcome.{told}
 use Rattle.prefixes.specs.declared.Figures.{Figures}
 use Rattle.prefixes.specs.declared.Prefix.{Prefix}
 use Rattle.prefixes.specs.declared.Parsed.{Parsed}
@@ -20,7 +19,7 @@ use Rattle.parts.specs.declared.Kind.TheVariants.{Dot as LoneDot, DotDot, Name}
 use Rattle.parts.specs.declared.Part.{Part}
 use Rattle.parts.specs.declared.Piece.{Piece}
 use Rattle.parts.specs.declared.Piece.TheVariants.{Nothing, Found}
-use Rattle.parts.specs.Body.{component_of, dots, from}
+use Rattle.parts.specs.Body.{component_of, dots}
 use Rattle.parts.specs.Steps.{lift, within, LastAt}
 use Rattle.parts.specs.Laws.{last_none, last_found}
 use Rattle.components.specs.declared.Dir.{Dir}
@@ -30,7 +29,7 @@ use Rattle.components.specs.Leaves.{OpenAt}
 use Rattle.order.specs.declared.Ordering.{Ordering}
 use Rattle.order.specs.Values.{Value, valued, prefix_value, value_of, values_in, values_of}
 use Rattle.order.specs.Order.{cmp_value}
-use Rattle.order.proofs.Ordered.{each, itself, value_ordered}
+use Rattle.order.proofs.Ordered.{itself, value_ordered}
 use Rattle.order.specs.Leaves.{dir_rank, dir_values, head_values, body_values}
 use Rattle.order.proofs.HeadLaws.{values_append, values_whole, open_kind, dot_alone, kind_less, kind_more, head_values_lem, no_head}
 use Rattle.order.specs.Leaves.{prefix_values}

@@ -39,7 +39,6 @@ use Rattle.components.specs.Laws.{whole_list}
 use Rattle.cursors.specs.declared.Span.{Span}
 use Rattle.cursors.specs.Rest.{span, view_of, is_prefix, left_end, empty_at, is_bare, dotted, behind_dot, rest_of}
 use Rattle.order.specs.Values.{Value, values_of}
-use Rattle.order.proofs.Ordered.{each}
 use Rattle.matches.specs.declared.After.{After}
 use Rattle.matches.specs.declared.After.TheVariants.{Off, Head, Body}
 use Rattle.matches.specs.Match.{same, starts_with, starts_of}

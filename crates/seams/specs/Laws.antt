@@ -1,7 +1,7 @@
 -- Laws of one path set behind another, whatever the set of separators: the empty path is a left unit, and either grouping gives the same bytes.
-use Rattle.std.specs.Prelude.{ℕ, zero, suc, ◌+◌, ◌-◌, ◌≡◌, Bool, not, ◌⊎◌, get_or}
+use Rattle.std.specs.Prelude.{ℕ, ◌+◌, ◌-◌, ◌≡◌, Bool, not, ◌⊎◌, get_or}
 use Rattle.std.proofs.Math.Path.{refl, sym}
-use Rattle.std.proofs.Common.{ap, ◌∙◌, ⊎_elim, inl, inr, arith, get_or-append-add}
+use Rattle.std.proofs.Common.{◌∙◌, ⊎_elim, inl, inr, arith, get_or-append-add}
 use Rattle.std.proofs.Math.Bool.{true, false, cond}
 use mathlib.Core.List.{List, [], ◌∷◌, ◌++◌, append_assoc, append-nil}
 use Rattle.std.proofs.Math.ListN.{length, length-append}

@@ -1,8 +1,7 @@
 -- Laws of the setters: one a way through each function.
-use Rattle.std.specs.Prelude.{ℕ, ◌+◌, ◌-◌, ◌*◌, ◌^◌, ◌<◌, ◌≤◌, ◌≡◌, List, [], ◌∷◌, ◌++◌, Bool, true, false, cond, not, length, get_or, take, drop}
+use Rattle.std.specs.Prelude.{ℕ, ◌+◌, ◌-◌, ◌<◌, ◌≤◌, ◌≡◌, List, [], ◌∷◌, ◌++◌, Bool, true, false, cond, length, get_or, take}
 use Rattle.std.proofs.Math.Nat.{sub-zero, add-sub_of_le}
-use Rattle.std.specs.Int.{w64}
-use Rattle.std.proofs.Common.{Fits, arith, add-one, ap, ◌∙◌, append-nil, drop_of_length-le, length-take-le, drop-cons, eq-eqb, ne_eqb}
+use Rattle.std.proofs.Common.{arith, add-one, ◌∙◌, append-nil, drop_of_length-le, length-take-le, drop-cons, eq-eqb, ne_eqb}
 use Rattle.std.proofs.Math.Path.{refl, sym}
 use Rattle.std.proofs.Math.Seq.{take-length}
 use Rattle.octets.specs.Class.{is_sep, limit}
@@ -11,25 +10,21 @@ use Rattle.octets.specs.declared.Seps.TheVariants.{Unix}
 use Rattle.answers.specs.declared.Reply.TheVariants.{Absent, Name}
 use Rattle.answers.specs.declared.View.{View}
 use Rattle.answers.specs.Reply.{refused_view, seen}
-use Rattle.answers.specs.Outcome.{Outcome, refuse, give, told, guard, plain}
+use Rattle.answers.specs.Outcome.{give, guard}
 use Rattle.answers.specs.Written.{Wrote}
 use Rattle.buffers.specs.Laws.{refused}
-use Rattle.parts.specs.declared.Component.{Component}
-use Rattle.parts.specs.declared.Component.TheVariants.{Prefix, RootDir, CurDir, ParentDir, Normal}
-use Rattle.parts.specs.declared.Element.{Element}
 use Rattle.parts.specs.declared.Item.{Item}
 use Rattle.parts.specs.declared.Item.TheVariants.{Missing, Here}
 use Rattle.parts.specs.declared.Part.{Part}
 use Rattle.parts.specs.declared.Piece.{Piece}
 use Rattle.parts.specs.declared.Piece.TheVariants.{Nothing, Found}
-use Rattle.parts.specs.Elements.{nth_back_of, is_here}
-use Rattle.parts.specs.Steps.{lift, raised}
-use Rattle.components.specs.List.{list_of}
+use Rattle.parts.specs.Elements.{is_here}
+use Rattle.parts.specs.Steps.{lift}
 use Rattle.joins.specs.Join.{joined}
-use Rattle.views.specs.Views.{last_name, rest_back, on_item, of_name, file_stem_of}
+use Rattle.views.specs.Views.{last_name, rest_back, of_name, file_stem_of}
 use Rattle.views.specs.Leaves.{NameAt, before_name, BaseAt, StemAt}
 use Rattle.views.specs.Laws.{name_ends}
-use Rattle.setters.specs.Set.{base_of, holds, pointed, on_view, extended}
+use Rattle.setters.specs.Set.{base_of, holds, pointed, extended}
 use Rattle.setters.specs.Leaves.{holds_from}
 
 -- `set_file_name_in`

@@ -17,7 +17,7 @@ use Rattle.parts.specs.declared.Kind.TheVariants.{Dot as OneDot, DotDot, Name}
 use Rattle.parts.specs.declared.Part.{Part}
 use Rattle.parts.specs.declared.Piece.{Piece}
 use Rattle.parts.specs.declared.Piece.TheVariants.{Nothing as None, Found}
-use Rattle.parts.specs.Body.{component_of, dots, from}
+use Rattle.parts.specs.Body.{component_of, dots}
 use Rattle.parts.specs.Steps.{lift, within, LastAt}
 use Rattle.parts.specs.Laws.{few, last_none, last_found, Bodily, Goods, from_good}
 use Rattle.verbatim.specs.declared.Sift.{Sift}
