@@ -1,7 +1,7 @@
 -- Laws of the cursor's calls: one a way through each.
-use Rattle.std.specs.Prelude.{ℕ, ◌+◌, ◌-◌, ◌<◌, ◌≤◌, ◌≡◌, refl, List, Bool, true, false, not, length, eqb}
+use Rattle.std.specs.Prelude.{ℕ, ◌+◌, ◌-◌, ◌<◌, ◌≤◌, ◌≡◌, refl, List, Bool, true, length}
 use Rattle.std.specs.Int.{w64}
-use Rattle.std.proofs.Common.{Fits, arith, sym, ap, ◌∙◌}
+use Rattle.std.proofs.Common.{Fits, arith, sym, ◌∙◌}
 use Rattle.std.proofs.lemmas.Bool.{false≢true}
 use borrow.Author.Tests.{eq-eqb, ne_eqb, lt-ltb, le-ltb}
 use Rattle.octets.specs.Class.{limit, seps_of}
@@ -9,21 +9,21 @@ use Rattle.octets.specs.declared.Seps.{Seps}
 use Rattle.answers.specs.declared.Reply.TheVariants.{Done, Mode, Length, Absent, Cursor as TooMany}
 use Rattle.answers.specs.declared.View.{View}
 use Rattle.answers.specs.Reply.{refused_view, seen}
-use Rattle.answers.specs.Outcome.{Outcome, refuse, give, told, guard}
+use Rattle.answers.specs.Outcome.{told, guard}
 use Rattle.answers.specs.Laws.{no_mode, too_long, all_well}
 use Rattle.parts.specs.declared.Element.{Element}
 use Rattle.parts.specs.declared.Item.{Item}
 use Rattle.parts.specs.declared.Item.TheVariants.{Missing, Here}
 use Rattle.parts.specs.Elements.{nth_of, nth_back_of, is_here}
 use Rattle.parts.specs.Laws.{nth_inside, back_inside_of}
-use Rattle.components.specs.List.{start_of, list_of}
+use Rattle.components.specs.List.{list_of}
 use Rattle.components.specs.Laws.{path_few}
 use Rattle.cursors.specs.declared.Left.{Left}
 use Rattle.cursors.specs.declared.Left.TheVariants.{Beyond, Spent, Some}
 use Rattle.cursors.specs.declared.Span.{Span}
 use Rattle.cursors.specs.declared.Remains.{Remains}
 use Rattle.cursors.specs.declared.Remains.TheVariants.{Beyond as TooFar, Is as Rests}
-use Rattle.cursors.specs.Rest.{left_of, dotted, rest_of, rest_asked}
+use Rattle.cursors.specs.Rest.{left_of, rest_asked}
 use Rattle.cursors.specs.Laws.{beyond_says, spent_says, some_says, toomany_says, rests_says}
 use Rattle.paths.specs.declared.steps.Cursor.{Cursor}
 use Rattle.paths.specs.declared.steps.Taken.TheVariants.{Is as Took}

@@ -1,11 +1,11 @@
 -- The counted cursor's steps and its rest. Document 01, "A cursor is the mode and two numbers".
-use Rattle.std.specs.Prelude.{ℕ, ◌+◌, ◌-◌, List, not, length, eqb}
+use Rattle.std.specs.Prelude.{ℕ, ◌+◌, List, not, length, eqb}
 use Rattle.octets.specs.Class.{seps_of}
 use Rattle.octets.specs.declared.Seps.{Seps}
 use Rattle.answers.specs.declared.Reply.{Reply}
-use Rattle.answers.specs.declared.Reply.TheVariants.{Done, Cursor as TooMany}
+use Rattle.answers.specs.declared.Reply.TheVariants.{Done}
 use Rattle.answers.specs.declared.View.{View}
-use Rattle.answers.specs.Outcome.{Outcome, refuse, give, in_mode, short, taken, present}
+use Rattle.answers.specs.Outcome.{Outcome, give, in_mode, short, taken, present}
 use Rattle.parts.specs.declared.Element.{Element}
 use Rattle.parts.specs.declared.Item.{Item}
 use Rattle.parts.specs.declared.Item.TheVariants.{Missing, Here}
