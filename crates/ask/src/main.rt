@@ -1,8 +1,11 @@
 // Answers each line of standard input on standard output. Proved: it is safe and ends on any input; that it serves
 // every line once and in order is tested.
+#![tactic(auto)]
+
 ghost use Rattle.std.specs.Prelude.{◌≡◌, ◌+◌, ◌≤◌, length};
 
 use protocol::{PATH, ROOM, SPACE};
+use std::io::Read;
 
 // The input is read by blocks, into a buffer of this size.
 const BLOCK: usize = 65536;
@@ -31,19 +34,20 @@ struct Block {
 
 // Writes the answers out if one more might not fit behind them, and gives how many bytes are then held. A write that
 // fails has nobody to be told.
-fn make_room(out: &[u8], held: usize) -> usize
+fn make_room(rt: &impl Print, out: &[u8], held: usize) -> usize
     requires { (held ≤ 262144) × (262144 ≤ length out.now) }
     ensures { result + 131584 ≤ 262144 }
 {
     if held <= FULL {
         return held;
     }
-    io::write_all(1, &out[0..held]);
+    let _ = rt.write_all(&out[0..held]);
     0
 }
 
 // Answers the whole lines of text.
 fn serve(
+    rt: &impl Print,
     text: &[u8],
     a: &mut [u8; PATH],
     b: &mut [u8; PATH],
@@ -61,7 +65,7 @@ fn serve(
         if end == text.len() {
             return Served { end: at, held: n };
         }
-        let place = make_room(out, n);
+        let place = make_room(rt, out, n);
         n = asking::answer(&text[at..end], a, b, space, out, place);
         at = end + 1;
     }
@@ -70,6 +74,7 @@ fn serve(
 
 // Answers the last line, which has no byte 10, and gives how many bytes are then held. No bytes are no line.
 fn serve_last(
+    rt: &impl Print,
     line: &[u8],
     a: &mut [u8; PATH],
     b: &mut [u8; PATH],
@@ -83,14 +88,14 @@ fn serve_last(
     if line.len() == 0 {
         return held;
     }
-    let place = make_room(out, held);
+    let place = make_room(rt, out, held);
     asking::answer(line, a, b, space, out, place)
 }
 
-fn flush(out: &[u8], held: usize)
+fn flush(rt: &impl Print, out: &[u8], held: usize)
     requires { (held ≤ 262144) × (262144 ≤ length out.now) }
 {
-    io::write_all(1, &out[0..held]);
+    let _ = rt.write_all(&out[0..held]);
 }
 
 // Moves `count` bytes from place `from` to the front.
@@ -110,17 +115,34 @@ fn least(x: usize, y: usize) -> usize
     if x < y { x } else { y }
 }
 
+// Reads until buf is full, the input ends or a read fails, and gives how many bytes it put at the front of buf.
+fn read_full<R: Read>(from: &mut R, buf: &mut [u8]) -> usize
+    ensures { (result ≤ length buf.new) × (length buf.new ≡ length buf.old) }
+{
+    let mut done = 0;
+    while done < buf.len() {
+        match from.read(&mut buf[done..]) {
+            Ok(0) => return done,
+            Ok(n) => done += n,
+            Err(_) => return done,
+        }
+    }
+    done
+}
+
 // Reads a block behind the bytes that were kept, and gives the end of what then stands in the buffer.
-fn fill(input: &mut [u8], kept: usize) -> usize
+fn fill<R: Read>(from: &mut R, input: &mut [u8], kept: usize) -> usize
     requires { (kept ≤ 33001) × (length input.old ≡ 65536) }
     ensures { result ≤ 65536 }
 {
-    let got = io::read_full(0, &mut input[kept..]);
+    let got = read_full(from, &mut input[kept..]);
     kept + got
 }
 
 // Reads a block and serves the lines in it. A block that does not fill the buffer is the last.
-fn turn(
+fn turn<R: Read>(
+    rt: &impl Print,
+    from: &mut R,
     input: &mut [u8],
     a: &mut [u8; PATH],
     b: &mut [u8; PATH],
@@ -132,20 +154,20 @@ fn turn(
     requires { (kept ≤ 33001) × (held ≤ 262144) × (length input.old ≡ 65536) }
     ensures { (result.kept ≤ 33001) × (result.held ≤ 262144) }
 {
-    let end = fill(input, kept);
-    let s = serve(&input[0..end], a, b, space, out, held);
-    let from = s.end;
+    let end = fill(from, input, kept);
+    let s = serve(rt, &input[0..end], a, b, space, out, held);
+    let start = s.end;
     if end < BLOCK {
-        let n = serve_last(&input[from..end], a, b, space, out, s.held);
-        flush(out, n);
+        let n = serve_last(rt, &input[start..end], a, b, space, out, s.held);
+        flush(rt, out, n);
         return Block {
             kept: 0,
             held: 0,
             more: false,
         };
     }
-    let next = least(end - from, KEPT);
-    shift(input, from, next);
+    let next = least(end - start, KEPT);
+    shift(input, start, next);
     Block {
         kept: next,
         held: s.held,
@@ -154,7 +176,9 @@ fn turn(
 }
 
 // Nothing says that the input ends, so the turns are counted down, from a number that no run uses up.
-fn run(
+fn run<R: Read>(
+    rt: &impl Print,
+    from: &mut R,
     input: &mut [u8],
     a: &mut [u8; PATH],
     b: &mut [u8; PATH],
@@ -167,7 +191,7 @@ fn run(
     let mut kept = 0;
     let mut held = 0;
     while turns > 0 {
-        let t = turn(input, a, b, space, out, kept, held);
+        let t = turn(rt, from, input, a, b, space, out, kept, held);
         if !t.more {
             return;
         }
@@ -177,11 +201,21 @@ fn run(
     }
 }
 
-fn main() {
-    let mut input = io::large_buffer();
-    let mut space = io::large_buffer();
+// Zeros; that there are 65,536 of them is all that a caller need know.
+fn zeros() -> [u8; BLOCK]
+    ensures { length result ≡ 65536 }
+{
+    [0; BLOCK]
+}
+
+fn main(rt: HostRuntime) {
+    let mut from = rt.reader();
+    let mut input = zeros();
+    let mut space = zeros();
     let mut a = [0; PATH];
     let mut b = [0; PATH];
     let mut out = [0; SPACE];
-    run(&mut input, &mut a, &mut b, &mut space, &mut out);
+    run(
+        &rt, &mut from, &mut input, &mut a, &mut b, &mut space, &mut out,
+    );
 }
