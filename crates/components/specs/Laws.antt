@@ -24,7 +24,7 @@ use Rattle.parts.specs.declared.Item.{Item}
 use Rattle.parts.specs.declared.Item.TheVariants.{Missing, Here}
 use Rattle.parts.specs.declared.Part.{Part}
 use Rattle.parts.specs.declared.Piece.{Piece}
-use Rattle.parts.specs.declared.Piece.TheVariants.{Nothing as None, Found}
+use Rattle.parts.specs.declared.Piece.TheVariants.{Nothing as NoPart, Found}
 use Rattle.parts.specs.declared.Back.{Back}
 use Rattle.parts.specs.declared.Back.TheVariants.{At, Left}
 use Rattle.parts.specs.Body.{dots, from}
@@ -386,7 +386,7 @@ module _ (k : Seps) (s : List ℕ) where
         let t : Here (lift q) ≡ nth_back_of (body_list (start_of k s) s) 0 = rw (body_within (start_of k s) s) (rw g at (last_one _ _ s _ _ p last_begun)) in
         omega (arith, length-append (head_list (start_of k s)) (body_list (start_of k s) s), back_inside_of (body_list (start_of k s) s) 0 {p = lift q} (sym t))
 
-    pub last_head : (h : Start) (r : Item) → p ≡ None → OpenAt k s h → r ≡ nth_back_of (head_list h) 0 → r ≡ nth_back_of (list_of k s) 0
+    pub last_head : (h : Start) (r : Item) → p ≡ NoPart → OpenAt k s h → r ≡ nth_back_of (head_list h) 0 → r ≡ nth_back_of (list_of k s) 0
     unfolding list_of
     last_head h r g a z = back_left (start_of k s) s 0 (Left 0) (omega (arith, ap length (last_none last_begun g))) 0 r refl (rw (← a.is) z)
 

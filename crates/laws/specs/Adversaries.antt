@@ -39,7 +39,7 @@ use Rattle.paths.specs.Views.{view_call, parent_call}
 use Rattle.paths.specs.Pairs.{pair_call, compare_call}
 use Rattle.paths.specs.Writes.{join_call}
 use Rattle.paths.specs.Absolute.{absolute_call}
-use Rattle.laws.specs.Replies.{None}
+use Rattle.laws.specs.Replies.{NoneHolds}
 use Rattle.laws.specs.Walks.{stands}
 use Rattle.laws.specs.Rooms.{apart, told_passes, result_left}
 use Rattle.laws.specs.Given.{Call, prefix, next, next_back, as_path, parent, ancestor, file_name, file_stem, extension, has_root_lem, is_absolute_lem, compare, starts_with_lem, ends_with_lem, strip_prefix, join, set_file_name, set_extension, absolute, reply_to, tests_of, step_reply, otherwise_done}
@@ -53,7 +53,7 @@ cursor m f b = record { mode = m; front = f; back = b }
 -- ---- a library that only refuses
 
 -- where no test of the table holds, the answer is Done
-pub refuses_not : (c : Call) → None (tests_of c) → reply_to c ≡ Done
+pub refuses_not : (c : Call) → NoneHolds (tests_of c) → reply_to c ≡ Done
 refuses_not c n = (otherwise_done c).1 n
 
 -- and each of the 19 calls has such an input: `C:\a.b`, the name `x`, a buffer of 8 bytes

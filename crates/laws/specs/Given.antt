@@ -36,7 +36,7 @@ use Rattle.paths.specs.Views.{view_call, parent_call, ancestor_call, file_name_c
 use Rattle.paths.specs.Pairs.{pair_call, compare_call, starts_call, ends_call, strip_call}
 use Rattle.paths.specs.Writes.{join_call, set_name_call, set_extension_call}
 use Rattle.paths.specs.Absolute.{absolute_call}
-use Rattle.laws.specs.Replies.{Test, test, first_of, None, Why, done_when, exactly_when, rising, done_none, mode, long}
+use Rattle.laws.specs.Replies.{Test, test, first_of, NoneHolds, Why, done_when, exactly_when, rising, done_none, mode, long}
 
 -- a call, by what it is given; one that writes is given the room of its buffer, last
 pub data Call : Type 0 where
@@ -295,5 +295,5 @@ pub exactly : (c : Call) (r : Reply) → (reply_to c ≡ r) ↔ Why (tests_of c)
 exactly c r = rw (replies c) (exactly_when (tests_of c) r)
 
 -- 0 "otherwise": Done exactly where no test holds
-pub otherwise_done : (c : Call) → (reply_to c ≡ Done) ↔ None (tests_of c)
+pub otherwise_done : (c : Call) → (reply_to c ≡ Done) ↔ NoneHolds (tests_of c)
 otherwise_done c = (λ e. done_none (tests_of c) 1 (omega arith) (in_order c) (sym (replies c) ∙ e), λ n. replies c ∙ done_when (tests_of c) n)

@@ -22,40 +22,40 @@ first_of [] = Done
 first_of (t ∷ l) = cond t.holds t.reply (first_of l)
 
 -- none of them holds
-unfoldable pub None : List Test → Type 0
-None [] = Unit
-None (t ∷ l) = (t.holds ≡ false) × None l
+unfoldable pub NoneHolds : List Test → Type 0
+NoneHolds [] = Unit
+NoneHolds (t ∷ l) = (t.holds ≡ false) × NoneHolds l
 
 -- t stands in the list, and no test before it holds
 pub record First (l : List Test) (t : Test) : Type 0 where
   pub before : List Test
   pub behind : List Test
   pub is : l ≡ before ++ t ∷ behind
-  pub none : None before
+  pub none : NoneHolds before
   pub holds : t.holds ≡ true
 
 -- one direction: where it holds and none before it, its reply is given
-pub given_when : (a : List Test) (t : Test) (b : List Test) → None a → t.holds ≡ true → first_of (a ++ t ∷ b) ≡ t.reply
-unfolding first_of None
+pub given_when : (a : List Test) (t : Test) (b : List Test) → NoneHolds a → t.holds ≡ true → first_of (a ++ t ∷ b) ≡ t.reply
+unfolding first_of NoneHolds
 given_when [] t b n h = rw h
 given_when (u ∷ a) t b n h = rw n.0 (given_when a t b n.1 h)
 
-pub done_when : (l : List Test) → None l → first_of l ≡ Done
-unfolding first_of None
+pub done_when : (l : List Test) → NoneHolds l → first_of l ≡ Done
+unfolding first_of NoneHolds
 done_when [] n = refl
 done_when (t ∷ l) n = rw n.0 (done_when l n.1)
 
 -- the other: a reply that is given comes from a test that holds, none before it, or none holds and it is Done
 pub data Why (l : List Test) (r : Reply) : Type 0 where
   by : (t : Test) → First l t → r ≡ t.reply → Why l r
-  otherwise : None l → r ≡ Done → Why l r
+  otherwise : NoneHolds l → r ≡ Done → Why l r
 
 why_gives : (l : List Test) (r : Reply) → Why l r → first_of l ≡ r
 why_gives l r (by t f e) = rw (f.is, e) (given_when f.before t f.behind f.none f.holds)
 why_gives l r (otherwise n e) = rw e (done_when l n)
 
 why_more : (t : Test) (l : List Test) (r : Reply) → t.holds ≡ false → Why l r → Why (t ∷ l) r
-unfolding None
+unfolding NoneHolds
 why_more t l r h (by u f e) = by u (record { before = t ∷ f.before; behind = f.behind; is = ap (λ (m : List Test). t ∷ m) f.is; none = (h, f.none); holds = f.holds }) e
 why_more t l r h (otherwise n e) = otherwise (h, n) e
 
@@ -68,7 +68,7 @@ unfolding first_of
 first_no t l e = rw e
 
 pub only_when : (l : List Test) → Why l (first_of l)
-unfolding None
+unfolding NoneHolds
 only_when [] = otherwise tt (done_when [] tt)
 only_when (t ∷ l) =
     split t.holds
@@ -99,8 +99,8 @@ rising n [] = true
 rising n (t ∷ l) = cond (leb n (place t.reply)) (rising (place t.reply) l) false
 
 -- in such a list no test gives Done, so it is Done only where none holds
-pub done_none : (l : List Test) (n : ℕ) → 0 < n → rising n l ≡ true → first_of l ≡ Done → None l
-unfolding rising first_of None
+pub done_none : (l : List Test) (n : ℕ) → 0 < n → rising n l ≡ true → first_of l ≡ Done → NoneHolds l
+unfolding rising first_of NoneHolds
 done_none [] n h r e = tt
 done_none (t ∷ l) n h r e =
     split (leb n (place t.reply))

@@ -16,7 +16,7 @@ use Rattle.parts.specs.declared.Kind.{Kind}
 use Rattle.parts.specs.declared.Kind.TheVariants.{Dot as OneDot, DotDot, Name}
 use Rattle.parts.specs.declared.Part.{Part}
 use Rattle.parts.specs.declared.Piece.{Piece}
-use Rattle.parts.specs.declared.Piece.TheVariants.{Nothing as None, Found}
+use Rattle.parts.specs.declared.Piece.TheVariants.{Nothing as NoPart, Found}
 use Rattle.parts.specs.Body.{component_of, dots}
 use Rattle.parts.specs.Steps.{lift, within, LastAt}
 use Rattle.parts.specs.Laws.{few, last_none, last_found, Bodily, Goods, from_good}
@@ -192,11 +192,11 @@ sift_less k Normal zero = omega arith
 sift_less k Normal (suc c) = omega arith
 
 module _ (k : Seps) (s : List ℕ) (lo e c : ℕ) (y : Piece) (f : LastAt (is_sep k) (dots k) s lo e y) where
-  pub text_none : y ≡ None → text_at k s lo e c ≡ []
+  pub text_none : y ≡ NoPart → text_at k s lo e c ≡ []
   unfolding text_at spellings_of kept flat
   text_none g = rw (last_none f g)
 
-  owed_none : y ≡ None → owed_at k s lo e c ≡ c
+  owed_none : y ≡ NoPart → owed_at k s lo e c ≡ c
   unfolding owed_at spellings_of owed
   owed_none g = rw (last_none f g)
 
@@ -269,7 +269,7 @@ pub ruleset reads = (read_start, read_inside, read_left, read_in, read_keep, rea
 pub count_start : (k : Seps) (s : List ℕ) (lo hi left : ℕ) → hi ≤ length s → Counting k s lo hi left hi left 0
 count_start k s lo hi left h = record { is = omega arith; owes = refl; few = omega (arith, within_few k s lo hi h) }
 
-pub count_end : (k : Seps) (s : List ℕ) (t : Stretch) (e c n : ℕ) (y : Piece) → Reading k s t.lo t.left e c → Counting k s t.lo t.hi t.left e c n → LastAt (is_sep k) (dots k) s t.lo e y → y ≡ None → Tallied k s t (record { len = n; left = c })
+pub count_end : (k : Seps) (s : List ℕ) (t : Stretch) (e c n : ℕ) (y : Piece) → Reading k s t.lo t.left e c → Counting k s t.lo t.hi t.left e c n → LastAt (is_sep k) (dots k) s t.lo e y → y ≡ NoPart → Tallied k s t (record { len = n; left = c })
 count_end k s t e c n y i j f g =
     record {
       len = omega (arith, j.is, ap length (text_none k s t.lo e c y f g));

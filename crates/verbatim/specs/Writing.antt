@@ -15,7 +15,7 @@ use Rattle.answers.specs.Written.{over, Wrote}
 use Rattle.buffers.specs.Laws.{FromBack, back_none, back_push, over_over, take_over, two_pushes, no_room, filled}
 use Rattle.parts.specs.declared.Part.{Part}
 use Rattle.parts.specs.declared.Piece.{Piece}
-use Rattle.parts.specs.declared.Piece.TheVariants.{Nothing as None, Found}
+use Rattle.parts.specs.declared.Piece.TheVariants.{Nothing as NoPart, Found}
 use Rattle.parts.specs.Body.{component_of, dots}
 use Rattle.parts.specs.Steps.{LastAt}
 use Rattle.verbatim.specs.declared.Sift.{Sift}
@@ -73,10 +73,10 @@ module _ (k : Seps) (s : List ℕ) (lo e c : ℕ) (t b : List ℕ) (n j : ℕ) (
   write_long = i.back.long
 
   module _ (y : Piece) (f : LastAt (is_sep k) (dots k) s lo e y) where
-    pub write_place : y ≡ None → n ≡ j + length t
+    pub write_place : y ≡ NoPart → n ≡ j + length t
     write_place g = omega (arith, i.room, stands_at i, ap length (text_none k s lo e c y f g))
 
-    pub write_end : y ≡ None → out ≡ ending_at n t b
+    pub write_end : y ≡ NoPart → out ≡ ending_at n t b
     write_end g = stands_all (rw (text_none k s lo e c y f g) at i)
 
     module _ (x : Part) (g : y ≡ Found x) (o : Sift) (h : o ≡ sift_of k (component_of x.kind) c) where

@@ -7,7 +7,7 @@ ghost use Rattle.octets.specs.Class.{limit};
 ghost use Rattle.octets.specs.declared.Seps.TheVariants.{Windows};
 ghost use Rattle.answers.specs.Outcome.{give};
 ghost use Rattle.answers.specs.Written.{over, Wrote};
-ghost use Rattle.prefixes.specs.declared.Parsed.TheVariants.{Nothing as None};
+ghost use Rattle.prefixes.specs.declared.Parsed.TheVariants.{Nothing as NoPrefix};
 ghost use Rattle.prefixes.specs.Prefix.{prefix_in};
 ghost use Rattle.parts.specs.Body.{component_of};
 ghost use Rattle.verbatim.specs.Verbatim.{verbatim_kind, verbatim_in, verbatim_join};
@@ -208,7 +208,7 @@ fn roots(d: Dir) -> bool
 
 // A root of q takes the place of all that p has behind its prefix.
 fn share_of(p: &[u8], q: &[u8]) -> Share
-    requires { (verbatim_in (prefix_in Windows p.now) ≡ true) × (prefix_in Windows q.now ≡ None) }
+    requires { (verbatim_in (prefix_in Windows p.now) ≡ true) × (prefix_in Windows q.now ≡ NoPrefix) }
     ensures { Shared p.now q.now result }
 {
     let h = components::begin(Seps::Windows, p);
@@ -240,7 +240,7 @@ fn share_of(p: &[u8], q: &[u8]) -> Share
 // Where everything of the result comes from, and how long it is. A root has a byte of its own if nothing stands behind it.
 fn plan_of(p: &[u8], q: &[u8]) -> Plan
     requires p_len_bound { (length p.now ≤ limit) × (length q.now ≤ limit) }
-    requires p_value { (verbatim_in (prefix_in Windows p.now) ≡ true) × (prefix_in Windows q.now ≡ None) }
+    requires p_value { (verbatim_in (prefix_in Windows p.now) ≡ true) × (prefix_in Windows q.now ≡ NoPrefix) }
     ensures { Planned p.now q.now result }
 {
     let b = share_of(p, q);
@@ -299,7 +299,7 @@ fn write_text(p: &[u8], q: &[u8], w: Plan, out: &mut [u8])
 // p, which has a verbatim prefix, joined with q, which has none.
 pub fn join(p: &[u8], q: &[u8], out: &mut [u8]) -> View
     requires p_len_bound { (length p.now ≤ limit) × (length q.now ≤ limit) }
-    requires p_value { (verbatim_in (prefix_in Windows p.now) ≡ true) × (prefix_in Windows q.now ≡ None) }
+    requires p_value { (verbatim_in (prefix_in Windows p.now) ≡ true) × (prefix_in Windows q.now ≡ NoPrefix) }
     ensures { Wrote (give (verbatim_join p.now q.now)) result out.old out.new }
 {
     let w = plan_of(p, q);

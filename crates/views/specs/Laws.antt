@@ -35,7 +35,7 @@ use Rattle.parts.specs.declared.Part.{Part}
 use Rattle.parts.specs.declared.Back.{Back}
 use Rattle.parts.specs.declared.Back.TheVariants.{At, Left}
 use Rattle.parts.specs.declared.Piece.{Piece}
-use Rattle.parts.specs.declared.Piece.TheVariants.{Nothing as None, Found}
+use Rattle.parts.specs.declared.Piece.TheVariants.{Nothing as NoPart, Found}
 use Rattle.parts.specs.Body.{component_of, dots}
 use Rattle.parts.specs.Elements.{nth_of, nth_back_of, end_or}
 use Rattle.parts.specs.Steps.{is_name, lift, within, LastAt, BackAt}
@@ -298,7 +298,7 @@ module _ (k : Seps) (s : List ℕ) (h : Start) (o : OpenAt k s h) where
 
   -- `end_before`
   module _ (e : ℕ) (p : Piece) (f : LastAt (is_sep h.seps) (dots h.seps) s h.at e p) where
-    pub before_none : p ≡ None → (r : ℕ) → CutAt (dotted h s) (head_list h) s r → CutAt (dotted h s) (list_to h s e) s r
+    pub before_none : p ≡ NoPart → (r : ℕ) → CutAt (dotted h s) (head_list h) s r → CutAt (dotted h s) (list_to h s e) s r
     unfolding list_to
     before_none g r c = rw (last_none f g, append-nil) c
 
@@ -438,12 +438,12 @@ kind_named DotDot = refl
 kind_named Name = refl
 
 module _ (k : Seps) (s : List ℕ) (h : Start) (o : OpenAt k s h) (p : Piece) (f : LastAt (is_sep h.seps) (dots h.seps) s h.at (length s) p) where
-  none_named : p ≡ None → NameAt k s None
+  none_named : p ≡ NoPart → NameAt k s NoPart
   unfolding last_name list_to head_list
   none_named g = record { is = rw (whole_left k s h o, last_none f g, append-nil) (sym (head_unnamed h.prefix h.dir h.end)); spans = tt }
 
   -- `parent`
-  pub parent_head : (r : View) → p ≡ None → r ≡ told refused_view (head_up h.dir 1) → ViewAt (parent_of k s) s r
+  pub parent_head : (r : View) → p ≡ NoPart → r ≡ told refused_view (head_up h.dir 1) → ViewAt (parent_of k s) s r
   unfolding list_to
   parent_head r g e =
       let l : list_of k s ≡ head_list h = whole_left k s h o ∙ rw (last_none f g, append-nil) in
@@ -472,7 +472,7 @@ module _ (k : Seps) (s : List ℕ) (h : Start) (o : OpenAt k s h) (p : Piece) (f
           let t = last_found f g in
           record { is = rw (the_last, kind_named q.kind, ← n, y); spans = (omega arith, omega arith, omega arith, t.room) }
 
-      not_named : b ≡ false → NameAt k s None
+      not_named : b ≡ false → NameAt k s NoPart
       unfolding last_name
       not_named y = record { is = rw (the_last, kind_named q.kind, ← n, y); spans = tt }
 
@@ -485,19 +485,19 @@ module _ (k : Seps) (s : List ℕ) (h : Start) (o : OpenAt k s h) (p : Piece) (f
       pub base_not : b ≡ false → BaseAt k s (length s)
       base_not y = let e : last_name k s ≡ Missing = sym (not_named y).is in record { is = rw e; inside = omega arith }
 
-  pub base_none : p ≡ None → BaseAt k s (length s)
+  pub base_none : p ≡ NoPart → BaseAt k s (length s)
   base_none g = let e : last_name k s ≡ Missing = sym (none_named g).is in record { is = rw e; inside = omega arith }
 
 -- `name_part`, by the body alone
 module _ (k : Seps) (s : List ℕ) (w : Within) (o : BodyAt k s w) (p : Piece) (f : LastAt (is_sep w.seps) (dots w.seps) s w.at (length s) p) where
-  pub name_none : p ≡ None → NameAt k s None
+  pub name_none : p ≡ NoPart → NameAt k s NoPart
   name_none g = none_named k s (start_of k s) (open_start k s) p (last_begun k s w o p f) g
 
   module _ (q : Part) (g : p ≡ Found q) (b : Bool) (n : b ≡ is_name q.kind) where
     pub name_is : b ≡ true → NameAt k s (Found q)
     name_is y = is_named k s (start_of k s) (open_start k s) p (last_begun k s w o p f) q g b n y
 
-    pub name_not : b ≡ false → NameAt k s None
+    pub name_not : b ≡ false → NameAt k s NoPart
     name_not y = not_named k s (start_of k s) (open_start k s) p (last_begun k s w o p f) q g b n y
 
 -- ---- `last_dot`
@@ -575,7 +575,7 @@ module _ (s : List ℕ) (q : Part) (d : ℕ) (t : DotAt s q.start (q.start + q.l
 
 -- ---- the three views of a name
 
-pub name_absent : (f : List ℕ → Element → Outcome View) (k : Seps) (s : List ℕ) (p : Piece) (r : View) → NameAt k s p → p ≡ None → r ≡ refused_view Absent → ViewAt (of_name f k s) s r
+pub name_absent : (f : List ℕ → Element → Outcome View) (k : Seps) (s : List ℕ) (p : Piece) (r : View) → NameAt k s p → p ≡ NoPart → r ≡ refused_view Absent → ViewAt (of_name f k s) s r
 unfolding of_name told
 name_absent f k s p r a g e = record { is = e ∙ rw (← a.is, g); inside = rw e (omega arith) }
 
