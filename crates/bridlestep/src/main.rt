@@ -356,7 +356,7 @@ fn word(rt: &impl Env, i: usize, w: &mut [u8]) -> usize
     }
 }
 
-// How many words there are, the program's name among them; of more than MANY, MANY. Each is put at the front of w.
+// How many words there are, the program's name among them; where there are MANY or more, MANY. Each is put at the front of w.
 fn count_words(rt: &impl Env, w: &mut [u8]) -> usize {
     for i in 0..MANY {
         if let Err(FillError::NotPresent) = rt.arg(i, w) {

@@ -42,7 +42,7 @@ use Rattle.paths.specs.Absolute.{absolute_call}
 use Rattle.laws.specs.Replies.{NoneHolds}
 use Rattle.laws.specs.Walks.{stands}
 use Rattle.laws.specs.Rooms.{apart, told_passes, result_left}
-use Rattle.laws.specs.Given.{Call, prefix, next, next_back, as_path, parent, ancestor, file_name, file_stem, extension, has_root_lem, is_absolute_lem, compare, starts_with_lem, ends_with_lem, strip_prefix, join, set_file_name, set_extension, absolute, reply_to, tests_of, step_reply, otherwise_done}
+use Rattle.laws.specs.Given.{Call, prefix, next, next_back, as_path, parent, ancestor, file_name, file_stem, extension, has_root_test, is_absolute_test, compare, starts_with_test, ends_with_test, strip_prefix, join, set_file_name, set_extension, absolute, reply_to, tests_of, step_reply, otherwise_done}
 
 abbrev elements : Cursor → List ℕ → List Element
 elements c s = list_of (seps_of c.mode) s
@@ -73,11 +73,11 @@ pub each_done :
     × (reply_to (file_name 1 file) ≡ Done)
     × (reply_to (file_stem 1 file) ≡ Done)
     × (reply_to (extension 1 file) ≡ Done)
-    × (reply_to (has_root_lem 1 file) ≡ Done)
-    × (reply_to (is_absolute_lem 1 file) ≡ Done)
+    × (reply_to (has_root_test 1 file) ≡ Done)
+    × (reply_to (is_absolute_test 1 file) ≡ Done)
     × (reply_to (compare 1 file other) ≡ Done)
-    × (reply_to (starts_with_lem 1 file other) ≡ Done)
-    × (reply_to (ends_with_lem 1 file other) ≡ Done)
+    × (reply_to (starts_with_test 1 file other) ≡ Done)
+    × (reply_to (ends_with_test 1 file other) ≡ Done)
     × (reply_to (strip_prefix 1 file file) ≡ Done)
     × (reply_to (join 1 file other 8) ≡ Done)
     × (reply_to (set_file_name 1 file other 8) ≡ Done)

@@ -49,11 +49,11 @@ pub data Call : Type 0 where
   file_name : ℕ → List ℕ → Call
   file_stem : ℕ → List ℕ → Call
   extension : ℕ → List ℕ → Call
-  has_root_lem : ℕ → List ℕ → Call
-  is_absolute_lem : ℕ → List ℕ → Call
+  has_root_test : ℕ → List ℕ → Call
+  is_absolute_test : ℕ → List ℕ → Call
   compare : ℕ → List ℕ → List ℕ → Call
-  starts_with_lem : ℕ → List ℕ → List ℕ → Call
-  ends_with_lem : ℕ → List ℕ → List ℕ → Call
+  starts_with_test : ℕ → List ℕ → List ℕ → Call
+  ends_with_test : ℕ → List ℕ → List ℕ → Call
   strip_prefix : ℕ → List ℕ → List ℕ → Call
   join : ℕ → List ℕ → List ℕ → ℕ → Call
   set_file_name : ℕ → List ℕ → List ℕ → ℕ → Call
@@ -71,11 +71,11 @@ reply_to (ancestor m s n) = (told refused_view (ancestor_call n m s)).reply
 reply_to (file_name m s) = (told refused_view (file_name_call m s)).reply
 reply_to (file_stem m s) = (told refused_view (file_stem_call m s)).reply
 reply_to (extension m s) = (told refused_view (extension_call m s)).reply
-reply_to (has_root_lem m s) = (told refused_verdict (root_call m s)).reply
-reply_to (is_absolute_lem m s) = (told refused_verdict (absolute_test m s)).reply
+reply_to (has_root_test m s) = (told refused_verdict (root_call m s)).reply
+reply_to (is_absolute_test m s) = (told refused_verdict (absolute_test m s)).reply
 reply_to (compare m p q) = (told refused_verdict (compare_call m p q)).reply
-reply_to (starts_with_lem m p q) = (told refused_verdict (starts_call m p q)).reply
-reply_to (ends_with_lem m p q) = (told refused_verdict (ends_call m p q)).reply
+reply_to (starts_with_test m p q) = (told refused_verdict (starts_call m p q)).reply
+reply_to (ends_with_test m p q) = (told refused_verdict (ends_call m p q)).reply
 reply_to (strip_prefix m p q) = (told refused_view (strip_call m p q)).reply
 reply_to (join m p q n) = (answered n (join_call m p q)).reply
 reply_to (set_file_name m p q n) = (answered n (set_name_call m p q)).reply
@@ -125,11 +125,11 @@ tests_of (ancestor m s n) = mode m ∷ long s ∷ absent (climbs (list_of (seps_
 tests_of (file_name m s) = mode m ∷ long s ∷ absent (is_here (last_name (seps_of m) s)) ∷ []
 tests_of (file_stem m s) = mode m ∷ long s ∷ absent (is_here (last_name (seps_of m) s)) ∷ []
 tests_of (extension m s) = mode m ∷ long s ∷ absent (pointed_at s (last_name (seps_of m) s)) ∷ []
-tests_of (has_root_lem m s) = mode m ∷ long s ∷ []
-tests_of (is_absolute_lem m s) = mode m ∷ long s ∷ []
+tests_of (has_root_test m s) = mode m ∷ long s ∷ []
+tests_of (is_absolute_test m s) = mode m ∷ long s ∷ []
 tests_of (compare m p q) = mode m ∷ long p ∷ long q ∷ []
-tests_of (starts_with_lem m p q) = mode m ∷ long p ∷ long q ∷ []
-tests_of (ends_with_lem m p q) = mode m ∷ long p ∷ long q ∷ []
+tests_of (starts_with_test m p q) = mode m ∷ long p ∷ long q ∷ []
+tests_of (ends_with_test m p q) = mode m ∷ long p ∷ long q ∷ []
 tests_of (strip_prefix m p q) = mode m ∷ long p ∷ long q ∷ absent (starts_of (seps_of m) p q) ∷ []
 tests_of (join m p q n) = mode m ∷ long p ∷ long q ∷ room n (joined (seps_of m) p q) ∷ []
 tests_of (set_file_name m p q n) = mode m ∷ long p ∷ long q ∷ room n (joined (seps_of m) (base_of (seps_of m) p) q) ∷ []
@@ -148,11 +148,11 @@ in_order (ancestor m s n) = refl
 in_order (file_name m s) = refl
 in_order (file_stem m s) = refl
 in_order (extension m s) = refl
-in_order (has_root_lem m s) = refl
-in_order (is_absolute_lem m s) = refl
+in_order (has_root_test m s) = refl
+in_order (is_absolute_test m s) = refl
 in_order (compare m p q) = refl
-in_order (starts_with_lem m p q) = refl
-in_order (ends_with_lem m p q) = refl
+in_order (starts_with_test m p q) = refl
+in_order (ends_with_test m p q) = refl
 in_order (strip_prefix m p q) = refl
 in_order (join m p q n) = refl
 in_order (set_file_name m p q n) = refl
@@ -279,11 +279,11 @@ replies (ancestor m s n) = told_one view_reply refused_view (λ r. refl) m s _ _
 replies (file_name m s) = told_one view_reply refused_view (λ r. refl) m s _ _ (named_reply (last_name (seps_of m) s) (whole_seen s) (whole_done s))
 replies (file_stem m s) = told_one view_reply refused_view (λ r. refl) m s _ _ (named_reply (last_name (seps_of m) s) (stem_seen s) (stem_done s))
 replies (extension m s) = told_one view_reply refused_view (λ r. refl) m s _ _ (pointed_reply (last_name (seps_of m) s) s)
-replies (has_root_lem m s) = told_one verdict_reply refused_verdict (λ r. refl) m s _ _ (told_done verdict_reply refused_verdict (λ r. refl) _ refl)
-replies (is_absolute_lem m s) = told_one verdict_reply refused_verdict (λ r. refl) m s _ _ (told_done verdict_reply refused_verdict (λ r. refl) _ refl)
+replies (has_root_test m s) = told_one verdict_reply refused_verdict (λ r. refl) m s _ _ (told_done verdict_reply refused_verdict (λ r. refl) _ refl)
+replies (is_absolute_test m s) = told_one verdict_reply refused_verdict (λ r. refl) m s _ _ (told_done verdict_reply refused_verdict (λ r. refl) _ refl)
 replies (compare m p q) = told_two verdict_reply refused_verdict (λ r. refl) m p q _ _ (told_done verdict_reply refused_verdict (λ r. refl) _ refl)
-replies (starts_with_lem m p q) = told_two verdict_reply refused_verdict (λ r. refl) m p q _ _ (told_done verdict_reply refused_verdict (λ r. refl) _ refl)
-replies (ends_with_lem m p q) = told_two verdict_reply refused_verdict (λ r. refl) m p q _ _ (told_done verdict_reply refused_verdict (λ r. refl) _ refl)
+replies (starts_with_test m p q) = told_two verdict_reply refused_verdict (λ r. refl) m p q _ _ (told_done verdict_reply refused_verdict (λ r. refl) _ refl)
+replies (ends_with_test m p q) = told_two verdict_reply refused_verdict (λ r. refl) m p q _ _ (told_done verdict_reply refused_verdict (λ r. refl) _ refl)
 replies (strip_prefix m p q) = told_two view_reply refused_view (λ r. refl) m p q _ _ (told_present view_reply refused_view (λ r. refl) _ _ _ refl refl)
 replies (join m p q n) = wrote_two n m p q _ _ (wrote_room n _)
 replies (set_file_name m p q n) = wrote_two n m p q _ _ (wrote_room n _)
