@@ -237,6 +237,7 @@ fn prev_sep(k: Seps, s: &[u8], lo: usize, hi: usize) -> usize
 }
 
 // The last part between `lo` and `hi`.
+#[tactic(auto, using(crate::specs::Laws::walks))]
 pub fn last(k: Seps, s: &[u8], lo: usize, hi: usize) -> Piece
     requires { hi ≤ length s.now }
     ensures { LastAt (is_sep k) (dots k) s.now lo hi result }

@@ -52,6 +52,7 @@ fn two_seps(s: &[u8]) -> bool
 }
 
 // A letter as a capital.
+#[tactic(auto, using(crate::specs::Laws::prefixes))]
 pub fn to_capital(b: u8) -> u8
     ensures { result ≡ capital b }
 {
@@ -75,6 +76,7 @@ pub fn is_drive(t: &[u8]) -> bool
 }
 
 // The same, and then the end or either separator.
+#[tactic(auto, using(crate::specs::Laws::prefixes))]
 fn is_drive_exact(t: &[u8]) -> bool
     ensures { result ≡ drive_exact t.now }
 {

@@ -237,6 +237,7 @@ pub fn file_stem(k: Seps, s: &[u8]) -> View
     }
 }
 
+#[tactic(auto, using(crate::specs::Laws::naming))]
 pub fn extension(k: Seps, s: &[u8]) -> View
     ensures { ViewAt (extension_of k s.now) s.now result }
 {
