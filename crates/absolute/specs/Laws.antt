@@ -1,5 +1,6 @@
 -- Laws of `absolute`: what the two walks count and write is what the definition says, and one law a way through each function.
-use Rattle.std.specs.Prelude.{ℕ, zero, suc, ◌+◌, ◌-◌, ◌*◌, ◌^◌, ◌<◌, ◌≤◌, ◌≡◌, refl, List, [], ◌∷◌, ◌++◌, Bool, not, cond, get_or, take, drop, ltb, leb}
+use Rattle.std.specs.Prelude.{ℕ, zero, suc, ◌+◌, ◌-◌, ◌*◌, ◌^◌, ◌<◌, ◌≤◌, ◌≡◌, refl, List, [], ◌∷◌, ◌++◌, Bool, true, false, not, nat_eq, cond, get_or, take, drop, ltb, leb, Option, Some, None}
+use borrow.Author.Tests.{eqb-true, eqb-false}
 use Rattle.std.specs.Int.{w64}
 use Rattle.std.proofs.Common.{Fits, arith, sym, ap, ◌∙◌, append-nil, append_assoc, get_or-take, get_or-drop, eq-eqb, ne_eqb, lt-ltb, ltb-true, ltb-false, leb-true, leb-false}
 use Rattle.std.proofs.Math.Nat.{add-sub_cancel_left, add-sub_of_le}
@@ -17,16 +18,11 @@ use Rattle.answers.specs.Reply.{refused_view, seen}
 use Rattle.answers.specs.Outcome.{give}
 use Rattle.answers.specs.Written.{over, Wrote}
 use Rattle.buffers.specs.Laws.{length_over, over_take, over_over, take_over, no_room, filled, Front, front_all, front_room, front_push, front_at, write_stops, write_goes}
-use Rattle.prefixes.specs.declared.Parsed.TheVariants.{Nothing as Bare}
 use Rattle.parts.specs.Elements.{bytes_of}
 use Rattle.parts.specs.declared.Component.{Component}
 use Rattle.parts.specs.declared.Component.TheVariants.{Prefix, RootDir, CurDir, ParentDir, Normal}
 use Rattle.parts.specs.declared.Element.{Element}
 use Rattle.parts.specs.declared.Part.{Part}
-use Rattle.parts.specs.declared.Piece.{Piece}
-use Rattle.parts.specs.declared.Piece.TheVariants.{Nothing, Found}
-use Rattle.parts.specs.declared.Sort.{Sort}
-use Rattle.parts.specs.declared.Sort.TheVariants.{Skip, Is}
 use Rattle.parts.specs.Body.{sort_at, from}
 use Rattle.parts.specs.Steps.{FirstAt}
 use Rattle.parts.specs.Laws.{from_is, from_skip, from_end, first_none, first_found, Bodily, Good, Goods, from_good}
@@ -39,6 +35,7 @@ use Rattle.seams.specs.Seam.{wants, glued, seamed}
 use Rattle.seams.specs.Laws.{glued_open, glued_shut, seamed_relative}
 use Rattle.absolute.specs.Absolute.{two_slashes, start_for, left_out, one_by_one, ends, closed, finished, absolute_of}
 use Rattle.absolute.specs.Leaves.{sep_if, tail_of, tail_from, TailLen, RoomAt}
+use Rattle.parts.specs.declared.Kind.{Kind}
 
 -- `ends_sep`, `two_slashes`
 module _ (s : List ℕ) where
@@ -139,14 +136,14 @@ dir_left s t l Root = refl
 dir_left s t l Implied = refl
 dir_left s t l Dot = refl
 
-whole : (s : List ℕ) → list_of Unix s ≡ dir_part (dir_of Unix Bare s 0) 0 ++ from (is_sep Unix) false s (start_of Unix s).at
+whole : (s : List ℕ) → list_of Unix s ≡ dir_part (dir_of Unix None s 0) 0 ++ from (is_sep Unix) false s (start_of Unix s).at
 unfolding list_of whole_of head_list body_list start_of
 whole s = refl
 
 pub finished_is : (s t : List ℕ) (h : Start) → OpenAt Unix s h → finished s t ≡ t ++ tail_from s (wants Unix t) h.at
 unfolding finished tail_from
 finished_is s t h o =
-    rw (whole s, dir_left s t (from (is_sep Unix) false s (start_of Unix s).at) (dir_of Unix Bare s 0))
+    rw (whole s, dir_left s t (from (is_sep Unix) false s (start_of Unix s).at) (dir_of Unix None s 0))
     (tail_law s (from (is_sep Unix) false s (start_of Unix s).at) t (from_good (is_sep Unix) false s (start_of Unix s).at) ∙ rw o.is)
 
 -- ---- the walks: what is to come of s from place i on, by what `first` finds there
@@ -155,8 +152,8 @@ gap_few : (o : Bool) → length (sep_if o) ≤ 1
 gap_few true = omega arith
 gap_few false = omega arith
 
-module _ (s : List ℕ) (i : ℕ) (r : Piece) (f : FirstAt (is_sep Unix) false s i r) (o : Bool) where
-  module _ (g : r ≡ Nothing) (y : Bool) (e : y ≡ ends s) where
+module _ (s : List ℕ) (i : ℕ) (r : Option Part) (f : FirstAt (is_sep Unix) false s i r) (o : Bool) where
+  module _ (g : r ≡ None) (y : Bool) (e : y ≡ ends s) where
     tail_open : y ≡ true → tail_from s o i ≡ sep_if o
     unfolding tail_from tail_of
     tail_open k = rw (first_none f g, ← e, k)
@@ -165,20 +162,20 @@ module _ (s : List ℕ) (i : ℕ) (r : Piece) (f : FirstAt (is_sep Unix) false s
     unfolding tail_from tail_of
     tail_shut k = rw (first_none f g, ← e, k)
 
-  tail_on : (x : Part) → r ≡ Found x → tail_from s o i ≡ sep_if o ++ (take x.len (drop x.start s) ++ tail_from s true (x.start + x.len + 1))
+  tail_on : (x : Part) → r ≡ Some x → tail_from s o i ≡ sep_if o ++ (take x.len (drop x.start s) ++ tail_from s true (x.start + x.len + 1))
   unfolding tail_from tail_of
   tail_on x g = rw (first_found f g).is
 
   -- `tail_len`: e says what the loop has kept
   module _ (n at : ℕ) (b : Bool) (e : n + length (tail_from s o i) ≡ length (tail_from s b at)) where
-    module _ (g : r ≡ Nothing) (y : Bool) (h : y ≡ ends s) (c : n ≤ length s + 1) where
+    module _ (g : r ≡ None) (y : Bool) (h : y ≡ ends s) (c : n ≤ length s + 1) where
       pub len_open : (z : ℕ) → y ≡ true → z ≡ length (sep_if o) → TailLen s b at (n + z)
       len_open z k l = record { is = omega (arith, ap length (tail_open g y h k)); small = omega (arith, gap_few o) }
 
       pub len_shut : y ≡ false → TailLen s b at n
       len_shut k = record { is = omega (arith, ap length (tail_shut g y h k)); small = omega arith }
 
-    pub len_on : (x : Part) (z : ℕ) → r ≡ Found x → z ≡ length (sep_if o) → n + z + x.len + length (tail_from s true (x.start + x.len + 1)) ≡ length (tail_from s b at)
+    pub len_on : (x : Part) (z : ℕ) → r ≡ Some x → z ≡ length (sep_if o) → n + z + x.len + length (tail_from s true (x.start + x.len + 1)) ≡ length (tail_from s b at)
     len_on x z g l =
         let t = first_found f g in
         let c : length (take x.len (drop x.start s)) ≡ x.len = length-take-le x.len (drop x.start s) (omega (arith, length-drop x.start s, t.high)) in
@@ -188,7 +185,7 @@ module _ (s : List ℕ) (i : ℕ) (r : Piece) (f : FirstAt (is_sep Unix) false s
     pub gap_fits : n ≤ length s + 1 → length s * 1 < 2 ^ 63 → Fits w64 (n + z)
     gap_fits c w = record { fits = omega (arith, gap_few o) }
 
-    module _ (x : Part) (g : r ≡ Found x) (c : n ≤ i) where
+    module _ (x : Part) (g : r ≡ Some x) (c : n ≤ i) where
       pub len_low : n + z + x.len ≤ x.start + x.len + 1
       len_low = let t = first_found f g in omega (arith, gap_few o, t.low)
 
@@ -208,10 +205,10 @@ module _ (s : List ℕ) where
   unfolding tail_from tail_of
   none_few b i h = rw (from_end (is_sep Unix) false s i h) (split (ends s) (λ e. rw e (omega arith)) (λ e. rw e (omega arith)))
 
-  segment_few : (i e : ℕ) (b : Bool) → EndAt (is_sep Unix) s i e → ((c : Bool) → length (tail_from s c (e + 1)) ≤ length (sep_if c) + (length s + 1 - (e + 1))) → (q : Sort) → sort_at false s i e ≡ q → length (tail_from s b i) ≤ length (sep_if b) + (length s + 1 - i)
+  segment_few : (i e : ℕ) (b : Bool) → EndAt (is_sep Unix) s i e → ((c : Bool) → length (tail_from s c (e + 1)) ≤ length (sep_if c) + (length s + 1 - (e + 1))) → (q : Option Kind) → sort_at false s i e ≡ q → length (tail_from s b i) ≤ length (sep_if b) + (length s + 1 - i)
   unfolding tail_from tail_of
-  segment_few i e b a f Skip g = rw (from_skip (is_sep Unix) false s i e a g) (omega (arith, f b, a.low))
-  segment_few i e b a f (Is q) g =
+  segment_few i e b a f None g = rw (from_skip (is_sep Unix) false s i e a g) (omega (arith, f b, a.low))
+  segment_few i e b a f (Some q) g =
       let c : length (take (e - i) (drop i s)) ≡ e - i = length-take-le (e - i) (drop i s) (omega (arith, length-drop i s, a.high)) in
       rw (from_is (is_sep Unix) false s i e q a g, add-sub_of_le a.low) (simp length-append (omega (arith, c, f true, a.low, a.high)))
 
@@ -242,8 +239,8 @@ module _ (s : List ℕ) (b : Bool) (i m n : ℕ) where
 pub ruleset lens = (room_much, room_counted, len_open, len_shut, len_on, gap_fits, len_low, len_high, len_fits)
 
 -- `write_tail`: f says what the loop has kept
-module _ (w b s : List ℕ) (i : ℕ) (o : Bool) (n : ℕ) (out : List ℕ) (f : Front w b (tail_from s o i) n out) (r : Piece) (g : FirstAt (is_sep Unix) false s i r) where
-  module _ (x : Part) (h : r ≡ Found x) where
+module _ (w b s : List ℕ) (i : ℕ) (o : Bool) (n : ℕ) (out : List ℕ) (f : Front w b (tail_from s o i) n out) (r : Option Part) (g : FirstAt (is_sep Unix) false s i r) where
+  module _ (x : Part) (h : r ≡ Some x) where
     gap_next : Front w b (sep_if o ++ (take x.len (drop x.start s) ++ tail_from s true (x.start + x.len + 1))) n out
     gap_next = rw (tail_on s i r g o x h) at f
 
@@ -260,7 +257,7 @@ module _ (w b s : List ℕ) (i : ℕ) (o : Bool) (n : ℕ) (out : List ℕ) (f :
       pub on_put : (k : ℕ) (after : List ℕ) → k ≡ m + length (take (x.start + x.len - x.start) (drop x.start s)) → after ≡ over (take m one ++ take (x.start + x.len - x.start) (drop x.start s)) one → Front w b (tail_from s true (x.start + x.len + 1)) k after
       on_put k after c e = front_push (take (x.start + x.len - x.start) (drop x.start s)) (tail_from s true (x.start + x.len + 1)) part_next e c
 
-  module _ (h : r ≡ Nothing) (y : Bool) (e : y ≡ ends s) where
+  module _ (h : r ≡ None) (y : Bool) (e : y ≡ ends s) where
     pub end_shut : y ≡ false → out ≡ over w b
     end_shut k = front_all (rw (tail_shut s i r g o h y e k) at f)
 
@@ -275,7 +272,7 @@ module _ (w b s : List ℕ) (i : ℕ) (o : Bool) (n : ℕ) (out : List ℕ) (f :
       end_put m after p q = front_all (front_push (sep_if o) [] gap_last q p)
 
 -- the place behind all that is to come
-module _ (b t s : List ℕ) (j i : ℕ) (o : Bool) (n : ℕ) (out : List ℕ) (f : Front (take j b ++ t) b (tail_from s o i) n out) (c : j + length t ≤ length b) (r : Piece) (g : FirstAt (is_sep Unix) false s i r) (h : r ≡ Nothing) (y : Bool) (e : y ≡ ends s) where
+module _ (b t s : List ℕ) (j i : ℕ) (o : Bool) (n : ℕ) (out : List ℕ) (f : Front (take j b ++ t) b (tail_from s o i) n out) (c : j + length t ≤ length b) (r : Option Part) (g : FirstAt (is_sep Unix) false s i r) (h : r ≡ None) (y : Bool) (e : y ≡ ends s) where
   all : (m : ℕ) (after : List ℕ) → Front (take j b ++ t) b [] m after → m ≡ j + length t
   all m after u = omega (arith, u.within, length-drop m (take j b ++ t), ap length u.to_come, length-append (take j b) t, length-take-le j b (omega arith))
 
@@ -336,7 +333,14 @@ module _ (s cwd : List ℕ) (a : View) (b : List ℕ) where
   unfolding absolute_of start_for
   abs_base x y n d h k l e = write_goes Empty _ a (ne_eqb (length s) 0 n) (write_stops Base _ a (rw (← d, h, ← k, l)) e)
 
-pub ruleset replies = (abs_empty, abs_two, abs_one, abs_cwd, abs_base)
+-- what `is_empty` answered
+pub empty_yes : (n : ℕ) (b : Bool) → b ≡ nat_eq n 0 → b ≡ true → n ≡ 0
+empty_yes n b e y = eqb-true n 0 (sym e ∙ y)
+
+pub empty_not : (n : ℕ) (b : Bool) → b ≡ nat_eq n 0 → b ≡ false → n ≡ 0 → ⊥
+empty_not n b e y z = eqb-false n 0 (sym e ∙ y) z
+
+pub ruleset replies = (empty_yes, empty_not, abs_empty, abs_two, abs_one, abs_cwd, abs_base)
 
 -- "The current directory's content is looked at only for a relative path": for an absolute one any other gives the same
 pub content_unread : (s c d : List ℕ) → is_absolute Unix s ≡ true → absolute_of s c ≡ absolute_of s d

@@ -1,6 +1,6 @@
 // Unix `absolute`: a path made absolute in a current directory that is handed in. A walk over the path's parts writes; where
 // the room may not be enough, another before it finds the finished length.
-#![tactic(auto)]
+#![tactic(auto, using(crate::specs::Laws::finishes, crate::specs::Laws::gaps, crate::specs::Laws::lens, crate::specs::Laws::replies, crate::specs::Laws::slashes, crate::specs::Laws::writes, parts::specs::Laws::walks))]
 
 ghost use Rattle.std.specs.Prelude.{◌≡◌, ◌++◌, ◌+◌, ◌^◌, ◌<◌, ◌≤◌, length, take};
 ghost use Rattle.answers.specs.Outcome.{give};
@@ -10,39 +10,28 @@ ghost use Rattle.absolute.specs.Leaves.{sep_if, tail_from, TailLen, RoomAt};
 
 use answers::{Reply, View};
 use octets::Seps;
-use parts::Piece;
 
 // Whether a path ends in a separator.
 fn ends_sep(s: &[u8]) -> bool
     ensures { result ≡ ends s.now }
 {
-    let n = s.len();
-    if n == 0 {
-        return false;
-    }
-    components::sep_at(Seps::Unix, s, n - 1)
+    !s.is_empty() && components::sep_at(Seps::Unix, s, s.len() - 1)
 }
 
 // POSIX 4.13: what two leading slashes mean is left open, so they stay two; more count as one.
 fn two_slashes(s: &[u8]) -> bool
     ensures { result ≡ two_slashes s.now }
 {
-    if components::sep_at(Seps::Unix, s, 0) {
-        if components::sep_at(Seps::Unix, s, 1) {
-            return !components::sep_at(Seps::Unix, s, 2);
-        }
-    }
-    false
+    components::sep_at(Seps::Unix, s, 0)
+        && components::sep_at(Seps::Unix, s, 1)
+        && !components::sep_at(Seps::Unix, s, 2)
 }
 
 // How many bytes a separator takes, where one is wanted.
 fn gap(apart: bool) -> usize
     ensures { result ≡ length (sep_if apart) }
 {
-    if apart {
-        return 1;
-    }
-    0
+    usize::from(apart)
 }
 
 // A separator at n in out, where one is wanted; the place behind it.
@@ -64,22 +53,15 @@ fn tail_len(s: &[u8], at: usize, apart: bool) -> usize
     let mut i = at;
     let mut o = apart;
     let mut n: usize = 0;
-    loop {
-        let p = parts::first(Seps::Unix, s, i);
-        match p {
-            Piece::Nothing => {
-                if ends_sep(s) {
-                    return n + gap(o);
-                }
-                return n;
-            }
-            Piece::Found(x) => {
-                n = n + gap(o) + x.len;
-                o = true;
-                i = x.start + x.len + 1;
-            }
-        }
+    while let Some(x) = parts::first(Seps::Unix, s, i) {
+        n = n + gap(o) + x.len;
+        o = true;
+        i = x.start + x.len + 1;
     }
+    if ends_sep(s) {
+        return n + gap(o);
+    }
+    n
 }
 
 // Whether n bytes hold m and what comes of s from `at` on. That is counted only where it may be too much.
@@ -87,10 +69,7 @@ fn has_room(s: &[u8], at: usize, apart: bool, m: usize, n: usize) -> bool
     requires { m + length s.now + 2 < 2 ^ 64 }
     ensures { RoomAt s.now apart at m n result }
 {
-    if m + s.len() + 2 <= n {
-        return true;
-    }
-    m + tail_len(s, at, apart) <= n
+    m + s.len() + 2 <= n || m + tail_len(s, at, apart) <= n
 }
 
 // The same bytes, written behind a start that ends at `begin`; the place behind them.
@@ -102,25 +81,17 @@ fn write_tail(s: &[u8], at: usize, apart: bool, out: &mut [u8], begin: usize) ->
     let mut i = at;
     let mut o = apart;
     let mut n = begin;
-    loop {
-        let p = parts::first(Seps::Unix, s, i);
-        match p {
-            Piece::Nothing => {
-                if ends_sep(s) {
-                    return put_gap(out, n, o);
-                }
-                return n;
-            }
-            Piece::Found(x) => {
-                let a = x.start;
-                let e = a + x.len;
-                let m = put_gap(out, n, o);
-                n = buffers::push(out, m, &s[a..e]);
-                o = true;
-                i = e + 1;
-            }
-        }
+    while let Some(x) = parts::first(Seps::Unix, s, i) {
+        let e = x.start + x.len;
+        let m = put_gap(out, n, o);
+        n = buffers::push(out, m, &s[x.start..e]);
+        o = true;
+        i = e + 1;
     }
+    if ends_sep(s) {
+        return put_gap(out, n, o);
+    }
+    n
 }
 
 // s, started with t.
@@ -128,20 +99,18 @@ fn finish(t: &[u8], s: &[u8], out: &mut [u8]) -> View
     requires { length t.now + length s.now + 2 < 2 ^ 64 }
     ensures { Wrote (give (finished s.now t.now)) result out.old out.new }
 {
-    let h = components::begin(Seps::Unix, s);
-    let at = h.at;
+    let at = components::begin(Seps::Unix, s).at;
     let o = seams::wants_sep(Seps::Unix, t);
     let m = t.len();
     if has_room(s, at, o, m, out.len()) {
         buffers::copy(out, t);
-        let len = write_tail(s, at, o, out, m);
         return View {
             reply: Reply::Done,
             start: 0,
-            len,
+            len: write_tail(s, at, o, out, m),
         };
     }
-    answers::refuse_view(Reply::Room)
+    View::from(Reply::Room)
 }
 
 // The path s made absolute in the current directory cwd, which is looked at for a relative path only.
@@ -149,8 +118,8 @@ pub fn absolute(s: &[u8], cwd: &[u8], out: &mut [u8]) -> View
     requires { length cwd.now + length s.now + 2 < 2 ^ 64 }
     ensures { Wrote (absolute_of s.now cwd.now) result out.old out.new }
 {
-    if s.len() == 0 {
-        return answers::refuse_view(Reply::Empty);
+    if s.is_empty() {
+        return View::from(Reply::Empty);
     }
     if components::is_absolute(Seps::Unix, s) {
         if two_slashes(s) {
@@ -161,5 +130,5 @@ pub fn absolute(s: &[u8], cwd: &[u8], out: &mut [u8]) -> View
     if components::sep_at(Seps::Unix, cwd, 0) {
         return finish(cwd, s, out);
     }
-    answers::refuse_view(Reply::Base)
+    View::from(Reply::Base)
 }

@@ -5,7 +5,6 @@ use Rattle.std.proofs.Common.{◌∙◌, lt-ltb, le-ltb}
 use Rattle.octets.specs.Class.{limit}
 use Rattle.answers.specs.declared.Reply.{Reply}
 use Rattle.answers.specs.declared.Reply.TheVariants.{Mode, Length, Absent}
-use Rattle.answers.specs.Reply.{bit, judged}
 use Rattle.answers.specs.Outcome.{Outcome, give, told, guard, in_mode, short, present}
 
 module _ {A : Type 0} (f : Reply → A) (r : Reply) (o : Outcome A) where
@@ -50,12 +49,3 @@ module _ {A : Type 0} (f : Reply → A) (x : A) (b : Bool) where
   done y e h = e ∙ sym (goes f Absent (give y) (rw h))
 
 pub ruleset guards = (no_mode, too_long, all_well, second_long, both_well, absent, done)
-
--- `judge`
-pub judge_yes : (b : Bool) → b ≡ true → judged 1 ≡ judged (bit b)
-judge_yes b e = rw e
-
-pub judge_not : (b : Bool) → b ≡ false → judged 0 ≡ judged (bit b)
-judge_not b e = rw e
-
-pub ruleset judges = (judge_yes, judge_not)

@@ -2,93 +2,97 @@
 // answer is longer than protocol::ANSWER. That each answer is put together as the protocol says is tested against stored answers.
 #![tactic(auto)]
 
-mod pairs;
-mod seen;
-mod steps;
+mod rows;
 mod writes;
 
-ghost use Rattle.std.specs.Prelude.{◌+◌, ◌≤◌, length};
-ghost use Rattle.protocol.specs.Requests.{Fit};
+ghost use Rattle.std.specs.Prelude.{◌≡◌, ◌+◌, ◌≤◌};
 
-use protocol::{Line, PATH, ROOM, Request, SPACE, Verb};
+use paths::Cursor;
+use protocol::{ANSWER, Answers, LONGEST, PATH, ROOM, Request, SPACE, Verb};
+use rows::{put_prefix, put_step, put_verdict, put_view};
+use writes::put_written;
 
-fn prefix(q: Request, p: &[u8], out: &mut [u8; SPACE], n: usize) -> usize
-    requires { n + 131584 ≤ 262144 }
-    ensures { result ≤ n + 131584 }
-{
-    steps::put_prefix(paths::prefix(q.mode, p), out, n)
+// What a request is read into, what it writes into, and the answers.
+#[derive(Drop)]
+pub struct Desk {
+    a: [u8; PATH],
+    b: [u8; PATH],
+    space: [u8; ROOM],
+    pub answers: Answers,
 }
 
-// The answer to a request with the paths p and other. One arm a request.
-fn reply(
-    q: Request,
-    p: &[u8],
-    other: &[u8],
-    space: &mut [u8; ROOM],
-    out: &mut [u8; SPACE],
-    n: usize,
-) -> usize
-    requires { n + 131584 ≤ 262144 }
-    ensures { result ≤ n + 131584 }
+// The answer to a request. One arm a request.
+fn put_reply(q: Request<'_>, space: &mut [u8; ROOM], out: &mut Answers)
+    requires { out.old + ANSWER ≤ SPACE }
+    ensures { out.new ≤ out.old + ANSWER }
 {
-    let verb = q.verb;
-    match verb {
-        Verb::Prefix => prefix(q, p, out, n),
-        Verb::Front => steps::front(q, p, out, n),
-        Verb::Back => steps::back(q, p, out, n),
-        Verb::Rest => steps::rest(q, p, out, n),
-        Verb::Root => steps::root(q, p, out, n),
-        Verb::IsAbsolute => steps::is_absolute(q, p, out, n),
-        Verb::Parent => seen::parent(q, p, out, n),
-        Verb::Ancestor => seen::ancestor(q, p, out, n),
-        Verb::Name => seen::name(q, p, out, n),
-        Verb::Stem => seen::stem(q, p, out, n),
-        Verb::Extension => seen::extension(q, p, out, n),
-        Verb::Compare => pairs::compare(q, p, other, out, n),
-        Verb::Starts => pairs::starts(q, p, other, out, n),
-        Verb::Ends => pairs::ends(q, p, other, out, n),
-        Verb::Strip => pairs::strip(q, p, other, out, n),
-        Verb::Unknown => protocol::put_bad(out, n),
-        _ => writes::written(q, p, other, space, out, n),
+    let (mode, path, other) = (q.mode, q.path, q.other);
+    let cursor = Cursor {
+        mode,
+        front: q.first,
+        back: q.second,
+    };
+    match q.verb {
+        Verb::Prefix => put_prefix(paths::prefix(mode, path), out),
+        Verb::Front => put_step(cursor.next(path), out),
+        Verb::Back => put_step(cursor.next_back(path), out),
+        Verb::Rest => put_view(cursor.as_path(path), out),
+        Verb::Root => put_verdict(paths::has_root(mode, path), out),
+        Verb::IsAbsolute => put_verdict(paths::is_absolute(mode, path), out),
+        Verb::Parent => put_view(paths::parent(mode, path), out),
+        Verb::Ancestor => put_view(paths::ancestor(mode, path, q.first), out),
+        Verb::Name => put_view(paths::file_name(mode, path), out),
+        Verb::Stem => put_view(paths::file_stem(mode, path), out),
+        Verb::Extension => put_view(paths::extension(mode, path), out),
+        Verb::Compare => put_verdict(paths::compare(mode, path, other), out),
+        Verb::Starts => put_verdict(paths::starts_with(mode, path, other), out),
+        Verb::Ends => put_verdict(paths::ends_with(mode, path, other), out),
+        Verb::Strip => put_view(paths::strip_prefix(mode, path, other), out),
+        Verb::Join => put_written(|w| paths::join(mode, path, other, w), q.first, space, out),
+        Verb::SetName => put_written(
+            |w| paths::set_file_name(mode, path, other, w),
+            q.first,
+            space,
+            out,
+        ),
+        Verb::SetExtension => put_written(
+            |w| paths::set_extension(mode, path, other, w),
+            q.first,
+            space,
+            out,
+        ),
+        Verb::Absolute => put_written(
+            |w| paths::absolute(mode, path, other, w),
+            q.first,
+            space,
+            out,
+        ),
     }
 }
 
-// The same, with the paths at the front of a and b.
-fn reply_in(
-    q: Request,
-    a: &[u8],
-    b: &[u8],
-    space: &mut [u8; ROOM],
-    out: &mut [u8; SPACE],
-    n: usize,
-) -> usize
-    requires { Fit q × (8192 ≤ length a.now) × (8192 ≤ length b.now) × (n + 131584 ≤ 262144) }
-    ensures { result ≤ n + 131584 }
-{
-    let first = q.a;
-    let second = q.b;
-    reply(q, &a[0..first], &b[0..second], space, out, n)
-}
-
-// Puts the answer to a line, which has no byte 10, from place n of out on, and gives the place behind it. What a, b
-// and space hold before does not matter.
-pub fn answer(
-    line: &[u8],
-    a: &mut [u8; PATH],
-    b: &mut [u8; PATH],
-    space: &mut [u8; ROOM],
-    out: &mut [u8; SPACE],
-    n: usize,
-) -> usize
-    requires { n + 131584 ≤ 262144 }
-    ensures { result ≤ n + 131584 }
-{
-    if line.len() > protocol::LONGEST {
-        return protocol::put_bad(out, n);
+impl Desk {
+    pub fn new() -> Desk
+        ensures { result.answers ≡ 0 }
+    {
+        Desk {
+            a: [0; PATH],
+            b: [0; PATH],
+            space: [0; ROOM],
+            answers: Answers::new(),
+        }
     }
-    let request = protocol::read(line, a, b);
-    match request {
-        Line::Bad => protocol::put_bad(out, n),
-        Line::Good(q) => reply_in(q, a, b, space, out, n),
+
+    // Puts the answer to a line, which has no byte 10, behind the answers that are held.
+    pub fn answer(&mut self, line: &[u8])
+        requires { self.old.answers + ANSWER ≤ SPACE }
+        ensures { self.new.answers ≤ self.old.answers + ANSWER }
+    {
+        if line.len() > LONGEST {
+            return self.answers.put_bad();
+        }
+        match protocol::read(line, &mut self.a, &mut self.b) {
+            Some(q) => put_reply(q, &mut self.space, &mut self.answers),
+            None => self.answers.put_bad(),
+        }
     }
 }

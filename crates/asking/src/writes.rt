@@ -1,48 +1,27 @@
-// The requests that write: the buffer is ROOM bytes of value 165 before the call, and all of it is shown after it.
-ghost use Rattle.std.specs.Prelude.{◌+◌, ◌≤◌, length};
+// The answers of the calls that write: the buffer is `room` bytes of value 165 before the call, and all of it is shown after it.
+ghost use Rattle.std.specs.Prelude.{◌+◌, ◌≤◌};
 
 use answers::View;
-use protocol::{ROOM, Request, SPACE, Verb};
+use protocol::{ANSWER, Answers, ROOM, SPACE};
 
-fn fill(space: &mut [u8]) {
-    let mut i = 0;
-    while i < space.len() {
-        space[i] = 165;
-        i += 1;
-    }
-}
-
-// The call that a verb names; no other verb comes here.
-fn called(q: Request, p: &[u8], other: &[u8], out: &mut [u8]) -> View {
-    let verb = q.verb;
-    match verb {
-        Verb::Join => paths::join(q.mode, p, other, out),
-        Verb::SetName => paths::set_file_name(q.mode, p, other, out),
-        Verb::SetExtension => paths::set_extension(q.mode, p, other, out),
-        _ => paths::absolute(q.mode, p, other, out),
-    }
-}
-
-pub fn written(
-    q: Request,
-    p: &[u8],
-    other: &[u8],
-    space: &mut [u8],
-    out: &mut [u8; SPACE],
-    n: usize,
-) -> usize
-    requires { (65536 ≤ length space.old) × (n + 131584 ≤ 262144) }
-    ensures { result ≤ n + 131584 }
+pub fn put_written<F: FnOnce(&mut [u8]) -> View>(
+    call: F,
+    room: usize,
+    space: &mut [u8; ROOM],
+    out: &mut Answers,
+)
+    requires callable { F.IsAlwaysCallable call }
+    requires room { out.old + ANSWER ≤ SPACE }
+    ensures { out.new ≤ out.old + ANSWER }
 {
-    let room = q.first;
     if room > ROOM {
-        return protocol::put_bad(out, n);
+        return out.put_bad();
     }
-    fill(&mut space[0..room]);
-    let v = called(q, p, other, &mut space[0..room]);
-    let reply = v.reply;
-    let row = [answers::number(reply), v.len];
-    let at = protocol::put_row(out, n, &row, b' ');
-    let end = protocol::put_hex(out, at, &space[0..room]);
-    protocol::put(out, end, 10)
+    let lent = &mut space[..room];
+    lent.fill(165);
+    let v = call(lent);
+    out.put_row(&[usize::from(v.reply), v.len]);
+    out.put(b' ');
+    out.put_hex(lent);
+    out.put(b'\n');
 }

@@ -2,12 +2,12 @@
 // and ends whatever the words. What it writes, and its exit status, are tested (args and stdout here, tests/command).
 #![tactic(auto)]
 
-ghost use Rattle.std.specs.Prelude.{◌≡◌, ◌≤◌, length};
+ghost use Rattle.std.specs.Prelude.{◌≤◌, length};
 
 use answers::{Reply, View};
-use parts::Component;
-use paths::{Cursor, Stepped, Taken};
+use paths::Cursor;
 use protocol::ROOM;
+use std::cmp::Ordering;
 use std::env::FillError;
 use std::io;
 use std::process::ExitCode;
@@ -26,417 +26,220 @@ const MOST: usize = 4100;
 // More words than any command has, the program's name among them.
 const MANY: usize = 6;
 
-// Where a part of a path starts and ends.
+const HELP: &str = "\
+bridlestep: what a path is made of, by the rules of Unix or of Windows. No file is looked at.
+
+  bridlestep list MODE PATH        the components of PATH: kind, start, length, bytes
+  bridlestep join MODE P Q         P and Q made one path
+  bridlestep compare MODE P Q      before, equal or after: where P stands to Q
+  bridlestep strip MODE PATH BASE  what of PATH remains behind BASE
+  bridlestep parent MODE PATH      PATH without its last component
+  bridlestep absolute PATH CWD     PATH made absolute in the directory CWD, in Unix
+
+MODE is unix or windows. In a list a byte that is not printable ASCII is shown as \\xNN.
+Exit status: 0 well; 1 refused, and the reason on standard error; 2 bad usage.
+
+  bridlestep list windows 'C:\\maps\\12'
+  bridlestep join windows 'C:\\maps' 12        C:\\maps\\12
+  bridlestep compare unix /maps/12 /maps/120  before
+  bridlestep strip unix /maps/12/a.map /maps  12/a.map
+  bridlestep parent windows 'C:\\maps\\12'      C:\\maps
+  bridlestep absolute 12/a.map /maps          /maps/12/a.map
+";
+
+// Why a run does not end well, with what is said of it.
 #[derive(Clone, Copy)]
-struct Ends {
-    from: usize,
-    to: usize,
+enum Failure {
+    // A call was refused.
+    Refused(&'static str),
+    // Bad usage.
+    Misused(&'static str),
+    // Standard output could not be written.
+    Unwritten,
 }
 
-// How a run ends where standard output can be written.
-#[derive(Clone, Copy)]
-enum Ending {
-    Well,
-    Refused,
-    Misused,
-}
-
-fn status(e: Ending) -> ExitCode {
-    match e {
-        Ending::Well => ExitCode::SUCCESS,
-        Ending::Refused => ExitCode::FAILURE,
-        Ending::Misused => ExitCode::from(2),
+impl Failure {
+    fn reason(self) -> &'static str {
+        match self {
+            Failure::Refused(reason) | Failure::Misused(reason) => reason,
+            Failure::Unwritten => "bridlestep: standard output could not be written\n",
+        }
     }
 }
 
-fn say(rt: &impl Print, text: &[u8]) -> io::Result<()> {
-    rt.write_all(text)
-}
-
-// Bad usage.
-fn misused(rt: &impl Eprint, text: &str) -> Ending {
-    let _ = rt.eprint(text);
-    Ending::Misused
-}
-
-// A call was refused.
-fn refused(rt: &impl Eprint, text: &str) -> Ending {
-    let _ = rt.eprint(text);
-    Ending::Refused
-}
-
-// What a refusal is called; `absent` says what is not there. Done is none.
-fn refuse(rt: &impl Eprint, r: Reply, absent: &str) -> Ending {
-    match r {
-        Reply::Done => Ending::Well,
-        Reply::Mode => refused(rt, "mode: MODE is neither unix nor windows\n"),
-        Reply::Length => refused(rt, "length: a path is longer than 4,096 bytes\n"),
-        Reply::Absent => refused(rt, absent),
-        Reply::Name => refused(rt, "name: the extension holds a separator\n"),
-        Reply::Empty => refused(rt, "empty: PATH is empty\n"),
-        Reply::Base => refused(
-            rt,
-            "base: PATH is relative, and CWD does not start with /\n",
-        ),
-        Reply::Room => refused(rt, "room: the result is longer than 65,536 bytes\n"),
-        Reply::Cursor => refused(rt, "cursor: more components were taken than PATH has\n"),
+impl From<io::Error> for Failure {
+    fn from(_e: io::Error) -> Failure {
+        Failure::Unwritten
     }
 }
 
-fn is_done(r: Reply) -> bool {
-    answers::number(r) == 0
+impl From<Failure> for ExitCode {
+    fn from(f: Failure) -> ExitCode {
+        match f {
+            Failure::Refused(_) | Failure::Unwritten => ExitCode::FAILURE,
+            Failure::Misused(_) => ExitCode::from(2),
+        }
+    }
 }
 
-fn least(x: usize, y: usize) -> usize
-    ensures { (result ≤ x) × (result ≤ y) }
-{
-    if x < y { x } else { y }
+// A reply that is no refusal, or what the refusal is called; `absent` says what is not there.
+fn accepted(r: Reply, absent: &'static str) -> Result<(), Failure> {
+    let reason = match r {
+        Reply::Done => return Ok(()),
+        Reply::Mode => "mode: MODE is neither unix nor windows\n",
+        Reply::Length => "length: a path is longer than 4,096 bytes\n",
+        Reply::Absent => absent,
+        Reply::Name => "name: the extension holds a separator\n",
+        Reply::Empty => "empty: PATH is empty\n",
+        Reply::Base => "base: PATH is relative, and CWD does not start with /\n",
+        Reply::Room => "room: the result is longer than 65,536 bytes\n",
+        Reply::Cursor => "cursor: more components were taken than PATH has\n",
+    };
+    Err(Failure::Refused(reason))
 }
 
-// The part of a path of n bytes. The library names no other place, so nothing is cut off; that it is so need not be proved here.
-fn ends_of(start: usize, len: usize, n: usize) -> Ends
-    ensures { (result.from ≤ result.to) × (result.to ≤ n) }
+// A part of a path. The library names no place outside of it, so nothing is cut off; that it is so need not be proved here.
+fn part(path: &[u8], start: usize, len: usize) -> &[u8]
+    ensures { length result.now ≤ length path.now }
 {
-    let from = least(start, n);
-    let to = from + least(len, n - from);
-    Ends { from, to }
+    let from = start.min(path.len());
+    let to = from.saturating_add(len).min(path.len());
+    &path[from..to]
 }
 
 // A part of a path on a line of its own, or why there is none.
-fn show(rt: &(impl Print + Eprint), v: View, path: &[u8], absent: &str) -> io::Result<Ending> {
-    let reply = v.reply;
-    if !is_done(reply) {
-        return Ok(refuse(rt, reply, absent));
-    }
-    let e = ends_of(v.start, v.len, path.len());
-    let from = e.from;
-    let to = e.to;
-    say(rt, &path[from..to])?;
-    say(rt, b"\n")?;
-    Ok(Ending::Well)
+fn show(rt: &impl Print, v: View, path: &[u8], absent: &'static str) -> Result<(), Failure> {
+    accepted(v.reply, absent)?;
+    rt.write_all(part(path, v.start, v.len))?;
+    rt.write_all(b"\n")?;
+    Ok(())
 }
 
-// The first n bytes of text.
-fn say_front(rt: &impl Print, text: &[u8], n: usize) -> io::Result<()>
-    requires { n ≤ length text.now }
-{
-    say(rt, &text[0..n])
-}
-
-// The line of a component that stands at `start`.
-fn say_line(
-    rt: &impl Print,
-    line: &mut [u8; LINE],
-    c: Component,
-    start: usize,
-    text: &[u8],
-) -> io::Result<()>
-    requires { length text.now ≤ 4097 }
-{
-    let n = wording::line(line, c, start, text);
-    say_front(rt, line, n)
-}
-
-// The line of what a step took.
-fn list_one(rt: &impl Print, s: Stepped, path: &[u8]) -> io::Result<()>
-    requires { length path.now ≤ 4097 }
-{
-    let t = s.component;
-    let Taken::Is(c) = t else {
-        return Ok(());
-    };
-    let e = ends_of(s.start, s.len, path.len());
-    let from = e.from;
-    let to = e.to;
-    let mut line = [0; LINE];
-    say_line(rt, &mut line, c, from, &path[from..to])
-}
-
-// The first step took nothing.
-fn list_none(rt: &(impl Print + Eprint), r: Reply) -> io::Result<Ending> {
+// How a list ends whose first `front` components were taken.
+fn list_end(rt: &impl Print, front: usize, r: Reply) -> Result<(), Failure> {
     match r {
-        Reply::Absent => {
-            say(rt, b"no components\n")?;
-            Ok(Ending::Well)
-        }
-        _ => Ok(refuse(rt, r, "absent: PATH has no components\n")),
+        Reply::Absent if front == 0 => rt.write_all(b"no components\n")?,
+        _ if front == 0 => accepted(r, "absent: PATH has no components\n")?,
+        _ => {}
     }
+    Ok(())
 }
 
-// A step at the front of a path of which `front` components were taken: its line, or how the list ends.
-fn list_next(
-    rt: &(impl Print + Eprint),
-    mode: usize,
-    path: &[u8],
-    front: usize,
-) -> io::Result<Option<Ending>>
+fn list(rt: &impl Print, mode: usize, path: &[u8]) -> Result<(), Failure>
     requires { length path.now ≤ 4097 }
 {
-    let c = Cursor {
-        mode,
-        front,
-        back: 0,
-    };
-    let s = c.next(path);
-    let reply = s.reply;
-    if is_done(reply) {
-        if front == 0 {
-            say(rt, b"kind                     start  length  text\n")?;
-        }
-        list_one(rt, s, path)?;
-        return Ok(None);
-    }
-    if front == 0 {
-        return Ok(Some(list_none(rt, reply)?));
-    }
-    Ok(Some(Ending::Well))
-}
-
-fn list(rt: &(impl Print + Eprint), mode: usize, path: &[u8]) -> io::Result<Ending>
-    requires { length path.now ≤ 4097 }
-{
+    let mut line = [0; LINE];
     for front in 0..MOST {
-        if let Some(ending) = list_next(rt, mode, path, front)? {
-            return Ok(ending);
+        let back = 0;
+        let s = Cursor { mode, front, back }.next(path);
+        let Some(c) = s.component else {
+            return list_end(rt, front, s.reply);
+        };
+        if front == 0 {
+            rt.write_all(b"kind                     start  length  text\n")?;
         }
+        let n = wording::line(&mut line, c, s.start, part(path, s.start, s.len));
+        rt.write_all(&line[..n])?;
     }
-    Ok(Ending::Well)
+    Ok(())
 }
 
-// A path that was written, on a line of its own, or why there is none.
-fn show_written(rt: &(impl Print + Eprint), v: View, out: &[u8]) -> io::Result<Ending> {
-    show(rt, v, out, "absent: there is no such path\n")
-}
-
-fn join(
-    rt: &(impl Print + Eprint),
-    mode: usize,
-    p: &[u8],
-    q: &[u8],
-    out: &mut [u8],
-) -> io::Result<Ending> {
-    let v = paths::join(mode, p, q, out);
-    show_written(rt, v, out)
-}
-
-fn absolute(
-    rt: &(impl Print + Eprint),
-    p: &[u8],
-    cwd: &[u8],
-    out: &mut [u8],
-) -> io::Result<Ending> {
-    let v = paths::absolute(0, p, cwd, out);
-    show_written(rt, v, out)
-}
-
-// Whether the first path comes before the second.
-fn compare(rt: &(impl Print + Eprint), mode: usize, p: &[u8], q: &[u8]) -> io::Result<Ending> {
+// Whether the first path comes before the second: 0 if it does, 1 for equal paths, else 2.
+fn compare(rt: &impl Print, mode: usize, p: &[u8], q: &[u8]) -> Result<(), Failure> {
     let v = paths::compare(mode, p, q);
-    let reply = v.reply;
-    if !is_done(reply) {
-        return Ok(refuse(rt, reply, "absent: there is no order\n"));
-    }
-    let value = v.value;
-    match value {
-        0 => say(rt, b"before\n")?,
-        1 => say(rt, b"equal\n")?,
-        _ => say(rt, b"after\n")?,
-    }
-    Ok(Ending::Well)
-}
-
-fn parent(rt: &(impl Print + Eprint), mode: usize, path: &[u8]) -> io::Result<Ending> {
-    let v = paths::parent(mode, path);
-    show(rt, v, path, "absent: PATH has no parent\n")
-}
-
-fn strip(rt: &(impl Print + Eprint), mode: usize, path: &[u8], base: &[u8]) -> io::Result<Ending> {
-    let v = paths::strip_prefix(mode, path, base);
-    show(rt, v, path, "absent: BASE is no start of PATH\n")
-}
-
-fn help_commands(rt: &impl Print) -> io::Result<()> {
-    say(
-        rt,
-        b"bridlestep: what a path is made of, by the rules of Unix or of Windows. No file is looked at.\n",
-    )?;
-    say(rt, b"\n")?;
-    say(
-        rt,
-        b"  bridlestep list MODE PATH        the components of PATH: kind, start, length, bytes\n",
-    )?;
-    say(
-        rt,
-        b"  bridlestep join MODE P Q         P and Q made one path\n",
-    )?;
-    say(
-        rt,
-        b"  bridlestep compare MODE P Q      before, equal or after: where P stands to Q\n",
-    )?;
-    say(
-        rt,
-        b"  bridlestep strip MODE PATH BASE  what of PATH remains behind BASE\n",
-    )?;
-    say(
-        rt,
-        b"  bridlestep parent MODE PATH      PATH without its last component\n",
-    )?;
-    say(
-        rt,
-        b"  bridlestep absolute PATH CWD     PATH made absolute in the directory CWD, in Unix\n",
-    )?;
-    say(rt, b"\n")
-}
-
-fn help_rest(rt: &impl Print) -> io::Result<()> {
-    say(
-        rt,
-        b"MODE is unix or windows. In a list a byte that is not printable ASCII is shown as \\xNN.\n",
-    )?;
-    say(
-        rt,
-        b"Exit status: 0 well; 1 refused, and the reason on standard error; 2 bad usage.\n",
-    )?;
-    say(rt, b"\n")?;
-    say(rt, b"  bridlestep list windows 'C:\\maps\\12'\n")?;
-    say(
-        rt,
-        b"  bridlestep join windows 'C:\\maps' 12        C:\\maps\\12\n",
-    )?;
-    say(
-        rt,
-        b"  bridlestep compare unix /maps/12 /maps/120  before\n",
-    )?;
-    say(
-        rt,
-        b"  bridlestep strip unix /maps/12/a.map /maps  12/a.map\n",
-    )?;
-    say(
-        rt,
-        b"  bridlestep parent windows 'C:\\maps\\12'      C:\\maps\n",
-    )?;
-    say(
-        rt,
-        b"  bridlestep absolute 12/a.map /maps          /maps/12/a.map\n",
-    )
-}
-
-fn help(rt: &impl Print) -> io::Result<Ending> {
-    help_commands(rt)?;
-    help_rest(rt)?;
-    Ok(Ending::Well)
+    accepted(v.reply, "absent: there is no order\n")?;
+    rt.print(match v.value.cmp(&1) {
+        Ordering::Less => "before\n",
+        Ordering::Equal => "equal\n",
+        Ordering::Greater => "after\n",
+    })?;
+    Ok(())
 }
 
 // Which words a command wants.
-fn misuse(rt: &impl Eprint, c: Command) -> Ending {
+fn usage(c: Command) -> &'static str {
     match c {
-        Command::Unknown => misused(
-            rt,
-            "bridlestep: list, join, compare, strip, parent or absolute is wanted; bridlestep --help shows how\n",
-        ),
-        Command::Help => misused(rt, "bridlestep: --help stands alone\n"),
-        Command::List => misused(rt, "usage: bridlestep list unix|windows PATH\n"),
-        Command::Parent => misused(rt, "usage: bridlestep parent unix|windows PATH\n"),
-        Command::Absolute => misused(rt, "usage: bridlestep absolute PATH CWD\n"),
-        Command::Join => misused(rt, "usage: bridlestep join unix|windows P Q\n"),
-        Command::Compare => misused(rt, "usage: bridlestep compare unix|windows P Q\n"),
-        Command::Strip => misused(rt, "usage: bridlestep strip unix|windows PATH BASE\n"),
+        Command::Help => "bridlestep: --help stands alone\n",
+        Command::List => "usage: bridlestep list unix|windows PATH\n",
+        Command::Parent => "usage: bridlestep parent unix|windows PATH\n",
+        Command::Absolute => "usage: bridlestep absolute PATH CWD\n",
+        Command::Join => "usage: bridlestep join unix|windows P Q\n",
+        Command::Compare => "usage: bridlestep compare unix|windows P Q\n",
+        Command::Strip => "usage: bridlestep strip unix|windows PATH BASE\n",
     }
 }
 
-// The i-th word, at the front of w; how long it is.
-fn word(rt: &impl Env, i: usize, w: &mut [u8]) -> usize
-    requires { length w.old ≡ 4097 }
-    ensures { result ≤ 4097 }
+// The i-th word, at the front of w; no bytes where there is none.
+fn word<'a>(rt: &impl Env, i: usize, w: &'a mut [u8; WORD]) -> &'a [u8]
+    ensures { length result.now ≤ 4097 }
 {
-    match rt.arg(i, w) {
+    let n = match rt.arg(i, w) {
         Ok(n) => n,
         Err(FillError::TooLong) => WORD,
         Err(FillError::NotPresent) => 0,
-    }
+    };
+    &w[..n]
 }
 
 // How many words there are, the program's name among them; where there are MANY or more, MANY. Each is put at the front of w.
-fn count_words(rt: &impl Env, w: &mut [u8]) -> usize {
-    for i in 0..MANY {
-        if let Err(FillError::NotPresent) = rt.arg(i, w) {
-            return i;
-        }
-    }
-    MANY
+fn count_words(rt: &impl Env, w: &mut [u8; WORD]) -> usize {
+    (0..MANY)
+        .find(|i| matches!(rt.arg(*i, w), Err(FillError::NotPresent)))
+        .unwrap_or(MANY)
 }
 
-// A command with a mode and one path or two. No other comes here.
-fn in_mode(
-    rt: &(impl Print + Eprint),
-    c: Command,
-    mode: usize,
-    p: &[u8],
-    q: &[u8],
-    out: &mut [u8],
-) -> io::Result<Ending>
-    requires { length p.now ≤ 4097 }
-{
-    match c {
-        Command::List => list(rt, mode, p),
-        Command::Parent => parent(rt, mode, p),
-        Command::Join => join(rt, mode, p, q, out),
-        Command::Compare => compare(rt, mode, p, q),
-        Command::Strip => strip(rt, mode, p, q),
-        _ => Ok(Ending::Well),
+// The command that the first word names, if the number of words is its own.
+fn command(rt: &impl Env, p: &mut [u8; WORD]) -> Result<Command, Failure> {
+    let Some(c) = wording::command_of(word(rt, 1, p)) else {
+        return Err(Failure::Misused(
+            "bridlestep: list, join, compare, strip, parent or absolute is wanted; bridlestep --help shows how\n",
+        ));
+    };
+    if count_words(rt, p) != wording::words_of(c) {
+        return Err(Failure::Misused(usage(c)));
     }
-}
-
-fn run_in_mode(
-    rt: &(impl Env + Print + Eprint),
-    c: Command,
-    p: &mut [u8],
-    q: &mut [u8],
-    out: &mut [u8],
-) -> io::Result<Ending>
-    requires { (length p.old ≡ 4097) × (length q.old ≡ 4097) }
-{
-    let m = word(rt, 2, p);
-    let mode = wording::mode_of(&p[0..m]);
-    if mode > 1 {
-        return Ok(misuse(rt, c));
-    }
-    let a = word(rt, 3, p);
-    let b = word(rt, 4, q);
-    in_mode(rt, c, mode, &p[0..a], &q[0..b], out)
-}
-
-fn run_absolute(
-    rt: &(impl Env + Print + Eprint),
-    p: &mut [u8],
-    q: &mut [u8],
-    out: &mut [u8],
-) -> io::Result<Ending>
-    requires { (length p.old ≡ 4097) × (length q.old ≡ 4097) }
-{
-    let a = word(rt, 2, p);
-    let b = word(rt, 3, q);
-    absolute(rt, &p[0..a], &q[0..b], out)
+    Ok(c)
 }
 
 fn run(
-    rt: &(impl Env + Print + Eprint),
-    p: &mut [u8],
-    q: &mut [u8],
-    out: &mut [u8],
-) -> io::Result<Ending>
-    requires { (length p.old ≡ 4097) × (length q.old ≡ 4097) }
-{
-    let n = word(rt, 1, p);
-    let c = wording::command_of(&p[0..n]);
-    if count_words(rt, q) != wording::words_of(c) {
-        return Ok(misuse(rt, c));
-    }
+    rt: &(impl Env + Print),
+    p: &mut [u8; WORD],
+    q: &mut [u8; WORD],
+    out: &mut [u8; ROOM],
+) -> Result<(), Failure> {
+    let c = command(rt, p)?;
+    // The mode, and the word behind it, where the paths begin. Help has neither, and `absolute` is for Unix alone.
+    let (mode, first) = match c {
+        Command::Help | Command::Absolute => (Some(0), 2),
+        _ => (wording::mode_of(word(rt, 2, p)), 3),
+    };
+    let Some(mode) = mode else {
+        return Err(Failure::Misused(usage(c)));
+    };
+    let p = word(rt, first, p);
+    let q = word(rt, first + 1, q);
+    let unwritten = "absent: there is no such path\n";
     match c {
-        Command::Unknown => Ok(misuse(rt, c)),
-        Command::Help => help(rt),
-        Command::Absolute => run_absolute(rt, p, q, out),
-        _ => run_in_mode(rt, c, p, q, out),
+        Command::Help => {
+            rt.print(HELP)?;
+            Ok(())
+        }
+        Command::List => list(rt, mode, p),
+        Command::Compare => compare(rt, mode, p, q),
+        Command::Parent => show(
+            rt,
+            paths::parent(mode, p),
+            p,
+            "absent: PATH has no parent\n",
+        ),
+        Command::Strip => show(
+            rt,
+            paths::strip_prefix(mode, p, q),
+            p,
+            "absent: BASE is no start of PATH\n",
+        ),
+        Command::Join => show(rt, paths::join(mode, p, q, out), out, unwritten),
+        Command::Absolute => show(rt, paths::absolute(mode, p, q, out), out, unwritten),
     }
 }
 
@@ -445,10 +248,10 @@ fn main(rt: HostRuntime) -> ExitCode {
     let mut q = [0; WORD];
     let mut out = [0; ROOM];
     match run(&rt, &mut p, &mut q, &mut out) {
-        Ok(ending) => status(ending),
-        Err(_) => {
-            let _ = rt.eprint("bridlestep: standard output could not be written\n");
-            ExitCode::FAILURE
+        Ok(()) => ExitCode::SUCCESS,
+        Err(f) => {
+            let _ = rt.eprint(f.reason());
+            ExitCode::from(f)
         }
     }
 }

@@ -1,6 +1,6 @@
 // Writing into a lent buffer: what every call that writes is made of. Room is decided in `lay` and by the callers of `push`,
 // from the finished length, before the first byte is written.
-#![tactic(auto)]
+#![tactic(auto, using(crate::specs::Laws::writes))]
 
 ghost use Rattle.std.specs.Prelude.{◌≡◌, ◌+◌, ◌^◌, ◌<◌, ◌≤◌, cond, [], ◌∷◌, ◌++◌, length, take, drop};
 ghost use Rattle.answers.specs.Outcome.{give};
@@ -8,57 +8,24 @@ ghost use Rattle.answers.specs.Written.{over, Wrote};
 
 use answers::{Reply, View};
 
-// dst's front becomes src, byte by byte.
-fn copy_bytes(dst: &mut [u8], src: &[u8])
-    requires { length src.now ≤ length dst.old }
-    ensures { dst.new ≡ over src.now dst.old }
-{
-    let mut i = 0;
-    while i < src.len() {
-        dst[i] = src[i];
-        i += 1;
-    }
-}
-
-// 16 bytes of src from i on, over those of dst. They pass through a block that is nobody else's: so a compiler can move them at
-// once.
-fn copy_block(dst: &mut [u8], src: &[u8], i: usize)
-    requires { (i + 16 ≤ length src.now) × (length src.now ≤ length dst.old) }
-    ensures { dst.new ≡ over (take i dst.old ++ take 16 (drop i src.now)) dst.old }
-{
-    let mut t = [0; 16];
-    let e = i + 16;
-    copy_bytes(&mut t, &src[i..e]);
-    copy_bytes(&mut dst[i..], &t);
-}
-
-// dst's front becomes src; every later byte stays. Blocks from the front, and the one that ends where src ends.
+// dst's front becomes src; every later byte stays.
 pub fn copy(dst: &mut [u8], src: &[u8])
     requires { length src.now ≤ length dst.old }
     ensures { dst.new ≡ over src.now dst.old }
 {
-    let n = src.len();
-    if n < 16 {
-        copy_bytes(dst, src);
-        return;
-    }
-    let e = n - 16;
-    let mut i = 0;
-    while i < e {
-        copy_block(dst, src, i);
-        i += 16;
-    }
-    copy_block(dst, src, e);
+    dst[..src.len()].copy_from_slice(src);
 }
 
-// src at n in out, behind what is written; the place behind it. What is pushed is mostly a name, too short for blocks.
+// src at n in out, behind what is written; the place behind it. Buffer and place are no struct: `verbatim` writes from the back, at
+// places that it counts down to.
 pub fn push(out: &mut [u8], n: usize, src: &[u8]) -> usize
     requires { n + length src.now ≤ length out.old }
     ensures r_value { result ≡ n + length src.now }
     ensures out_after { out.new ≡ over (take n out.old ++ src.now) out.old }
 {
-    copy_bytes(&mut out[n..], src);
-    n + src.len()
+    let end = n + src.len();
+    out[n..end].copy_from_slice(src);
+    end
 }
 
 // One byte at n in out; the place behind it.
@@ -71,27 +38,6 @@ pub fn push_byte(out: &mut [u8], n: usize, b: u8) -> usize
     n + 1
 }
 
-// How many bytes stand between two paths.
-fn gap(apart: bool) -> usize
-    ensures { (result ≤ 1) × (result ≡ cond apart 1 0) }
-{
-    if apart {
-        return 1;
-    }
-    0
-}
-
-// sep at n in out, where two paths are set apart.
-fn put_gap(out: &mut [u8], n: usize, apart: bool, sep: u8)
-    requires { n + cond apart 1 0 ≤ length out.old }
-    ensures { out.new ≡ over (take n out.old ++ cond apart (sep ∷ []) []) out.old }
-{
-    if apart {
-        push_byte(out, n, sep);
-        return;
-    }
-}
-
 // p, then sep where the two are set apart, then q at the front of out; Room where they do not fit. The part of out behind p and
 // sep is lent to the copy.
 pub fn lay(p: &[u8], apart: bool, sep: u8, q: &[u8], out: &mut [u8]) -> View
@@ -99,13 +45,15 @@ pub fn lay(p: &[u8], apart: bool, sep: u8, q: &[u8], out: &mut [u8]) -> View
     ensures { Wrote (give (p.now ++ cond apart (sep ∷ []) [] ++ q.now)) result out.old out.new }
 {
     let m = p.len();
-    let n = m + gap(apart);
+    let n = m + usize::from(apart);
     let whole = n + q.len();
     if out.len() < whole {
-        return answers::refuse_view(Reply::Room);
+        return View::from(Reply::Room);
     }
     copy(out, p);
-    put_gap(out, m, apart, sep);
+    if apart {
+        out[m] = sep;
+    }
     copy(&mut out[n..], q);
     View {
         reply: Reply::Done,

@@ -1,6 +1,7 @@
 // What the cab's firmware links: prefix, one step from either end, join and compare as C functions on numbers and byte slices.
 // include/bridlestep.h is the other side of it. Each returns its reply's number and hands its other numbers back through a reference.
 // The promise is that of the call below it: these numbers, in this order, are the numbers of that call's answer.
+// The two steps stay apart, with a cursor in three numbers, because the C interface has them so.
 #![tactic(auto)]
 
 ghost use Rattle.std.specs.Prelude.{◌≡◌, ◌∷◌, [], length};
@@ -54,17 +55,18 @@ pub extern "C" fn bridlestep_next_back(
     numbers::put_step(a, answer)
 }
 
+#[tactic(auto, unfolding(numbers::specs::Numbers::verdict_numbers))]
 #[unsafe(no_mangle)]
 pub extern "C" fn bridlestep_compare(mode: usize, p: &[u8], q: &[u8], order: &mut usize) -> usize
     ensures { result ∷ order.new ∷ [] ≡ verdict_numbers (told refused_verdict (compare_call mode p.now q.now)) }
 {
     let a = paths::compare(mode, p, q);
-    let reply = a.reply;
     *order = a.value;
-    answers::number(reply)
+    usize::from(a.reply)
 }
 
 // The result stands at the front of out; its start, which is 0, is not handed back.
+#[tactic(auto, unfolding(crate::specs::Numbers::written_numbers))]
 #[unsafe(no_mangle)]
 pub extern "C" fn bridlestep_join(
     mode: usize,
@@ -77,7 +79,6 @@ pub extern "C" fn bridlestep_join(
     ensures out_after { out.new ≡ left (join_call mode p.now q.now) out.old }
 {
     let a = paths::join(mode, p, q, out);
-    let reply = a.reply;
     *len = a.len;
-    answers::number(reply)
+    usize::from(a.reply)
 }

@@ -1,5 +1,7 @@
 -- Laws of a path's list: one a way through each function, and what they rest on.
-use Rattle.std.specs.Prelude.{ℕ, ◌+◌, ◌-◌, ◌*◌, ◌^◌, ◌<◌, ◌≤◌, ◌≡◌, List, [], ◌∷◌, Bool, true, get_or, drop, eqb, ltb}
+use Rattle.std.specs.Prelude.{ℕ, ◌+◌, ◌-◌, ◌*◌, ◌^◌, ◌<◌, ◌≤◌, ◌≡◌, List, [], ◌∷◌, Bool, true, get_or, drop, eqb, ltb, Option, Some, None}
+use Rattle.std.specs.Prelude.{Ok, Err}
+use Rattle.std.specs.Prelude.{Result}
 use Rattle.std.specs.Int.{w64}
 use Rattle.std.proofs.Common.{Fits, ◌∙◌}
 use native.Mathlib.Omega.{arith}
@@ -15,18 +17,10 @@ use Rattle.octets.specs.declared.Seps.{Seps}
 use Rattle.octets.specs.declared.Seps.TheVariants.{Unix, Windows, Verbatim as OnlyBack}
 use Rattle.prefixes.specs.declared.Prefix.{Prefix}
 use Rattle.prefixes.specs.declared.Prefix.TheVariants.{Verbatim, VerbatimUnc, VerbatimDisk, DeviceNs, Unc, Disk}
-use Rattle.prefixes.specs.declared.Parsed.{Parsed}
-use Rattle.prefixes.specs.declared.Parsed.TheVariants.{Nothing, Is}
 use Rattle.prefixes.specs.Prefix.{turned, begins, capital, drive, drive_exact, names_of, verbatim_of, unc_of, is_verbatim, device_of, prefix_of, prefix_in, end_of_prefix, has_prefix, is_disk}
 use Rattle.prefixes.specs.Laws.{by_cond, drive_long, drive_disk, bare_none, end_within, drive_told}
 use Rattle.parts.specs.declared.Component.TheVariants.{Prefix as Prefixed, RootDir, CurDir}
-use Rattle.parts.specs.declared.Item.{Item}
-use Rattle.parts.specs.declared.Item.TheVariants.{Missing, Here}
 use Rattle.parts.specs.declared.Part.{Part}
-use Rattle.parts.specs.declared.Piece.{Piece}
-use Rattle.parts.specs.declared.Piece.TheVariants.{Nothing as NoPart, Found}
-use Rattle.parts.specs.declared.Back.{Back}
-use Rattle.parts.specs.declared.Back.TheVariants.{At, Left}
 use Rattle.parts.specs.Body.{dots, from}
 use Rattle.parts.specs.Elements.{nth_of, nth_back_of, Upto}
 use Rattle.parts.specs.Steps.{lift, raised, within, LastAt, BackAt}
@@ -37,6 +31,7 @@ use Rattle.components.specs.declared.Start.{Start}
 use Rattle.components.specs.declared.Body.{Body}
 use Rattle.components.specs.List.{sep_at, dot_at, prefix_seps, inner_seps, prefix_dir, behind_prefix, dir_of, dir_len, start_of, prefix_part, dir_part, head_list, body_list, whole_of, list_of, is_root, has_root, wants_prefix, is_absolute}
 use Rattle.components.specs.Leaves.{start_with, OpenAt, BodyAt, CountAt}
+use Rattle.parts.specs.declared.Element.{Element}
 
 -- `sep_at`, `dot_at`
 module _ (k : Seps) (s : List ℕ) (i : ℕ) where
@@ -73,18 +68,18 @@ module _ (k : Seps) (s : List ℕ) (i : ℕ) where
     dot_sep b h e = e ∙ simp (d, ne_eqb (i + 1) (length s) h)
 
 -- `inner_seps`, `behind_prefix`, `dir_of`
-module _ (k : Seps) (p : Parsed) where
-  pub seps_behind : (q : Prefix) (r : Seps) → p ≡ Is q → r ≡ prefix_seps k q → r ≡ inner_seps k p
+module _ (k : Seps) (p : Option Prefix) where
+  pub seps_behind : (q : Prefix) (r : Seps) → p ≡ Some q → r ≡ prefix_seps k q → r ≡ inner_seps k p
   seps_behind q r e f = f ∙ rw e
 
   module _ (s : List ℕ) where
-    pub dir_dot : (b : Bool) → p ≡ Nothing → b ≡ dot_at k s 0 → b ≡ true → Dot ≡ behind_prefix k p s
+    pub dir_dot : (b : Bool) → p ≡ None → b ≡ dot_at k s 0 → b ≡ true → Dot ≡ behind_prefix k p s
     dir_dot b e f y = rw (e, ← f, y)
 
-    pub dir_bare : (b : Bool) → p ≡ Nothing → b ≡ dot_at k s 0 → b ≡ false → Bare ≡ behind_prefix k p s
+    pub dir_bare : (b : Bool) → p ≡ None → b ≡ dot_at k s 0 → b ≡ false → Bare ≡ behind_prefix k p s
     dir_bare b e f y = rw (e, ← f, y)
 
-    pub dir_prefix : (q : Prefix) (r : Dir) → p ≡ Is q → r ≡ prefix_dir q → r ≡ behind_prefix k p s
+    pub dir_prefix : (q : Prefix) (r : Dir) → p ≡ Some q → r ≡ prefix_dir q → r ≡ behind_prefix k p s
     dir_prefix q r e f = f ∙ rw e
 
     module _ (i : ℕ) (b : Bool) (e : b ≡ sep_at k s i) where
@@ -105,11 +100,11 @@ bare_dir (DeviceNs n) = refl
 bare_dir (Unc n) = refl
 bare_dir (Disk d) = refl
 
-behind_in : (k : Seps) (s : List ℕ) (p : Parsed) → end_of_prefix p ≤ length s → end_of_prefix p + dir_len (behind_prefix k p s) ≤ length s
-behind_in k s Nothing h = split (dot_at k s 0) (λ e. rw e (omega (arith, dot_inside k s 0 e))) (λ e. rw e (omega arith))
-behind_in k s (Is p) h = omega (arith, bare_dir p)
+behind_in : (k : Seps) (s : List ℕ) (p : Option Prefix) → end_of_prefix p ≤ length s → end_of_prefix p + dir_len (behind_prefix k p s) ≤ length s
+behind_in k s None h = split (dot_at k s 0) (λ e. rw e (omega (arith, dot_inside k s 0 e))) (λ e. rw e (omega arith))
+behind_in k s (Some p) h = omega (arith, bare_dir p)
 
-dir_in : (k : Seps) (s : List ℕ) (p : Parsed) → end_of_prefix p ≤ length s → end_of_prefix p + dir_len (dir_of k p s (end_of_prefix p)) ≤ length s
+dir_in : (k : Seps) (s : List ℕ) (p : Option Prefix) → end_of_prefix p ≤ length s → end_of_prefix p + dir_len (dir_of k p s (end_of_prefix p)) ≤ length s
 unfolding dir_of
 dir_in k s p h =
     split (sep_at k s (end_of_prefix p))
@@ -117,7 +112,7 @@ dir_in k s p h =
     (λ e. rw e (behind_in k s p h))
 
 -- `start_with`
-module _ (k : Seps) (p : Parsed) (e : ℕ) (d : Dir) (n : ℕ) (l : n ≡ dir_len d) where
+module _ (k : Seps) (p : Option Prefix) (e : ℕ) (d : Dir) (n : ℕ) (l : n ≡ dir_len d) where
   pub with_fits : e + dir_len d < 2 ^ 63 → Fits w64 (e + n)
   with_fits w = record { fits = omega arith }
 
@@ -126,7 +121,7 @@ module _ (k : Seps) (p : Parsed) (e : ℕ) (d : Dir) (n : ℕ) (l : n ≡ dir_le
   with_is r j = rw (j, l)
 
 -- what is found of the prefix p, of its end e and of step 2 makes a start
-module _ (k : Seps) (s : List ℕ) (p : Parsed) (f : p ≡ prefix_in k s) (e : ℕ) (g : e ≡ end_of_prefix p) (d : Dir) (h : d ≡ dir_of k p s e) where
+module _ (k : Seps) (s : List ℕ) (p : Option Prefix) (f : p ≡ prefix_in k s) (e : ℕ) (g : e ≡ end_of_prefix p) (d : Dir) (h : d ≡ dir_of k p s e) where
   at_in : e + dir_len d ≤ length s
   at_in = rw (h, g) (dir_in k s p (end_within k s p f))
 
@@ -137,40 +132,40 @@ module _ (k : Seps) (s : List ℕ) (p : Parsed) (f : p ≡ prefix_in k s) (e : �
   unfolding start_of start_with
   parsed_open r j = rw j (record { is = rw (h, g, f); low = omega arith; high = at_in })
 
-pub begin_is : (k : Seps) (s : List ℕ) (p : Parsed) → p ≡ prefix_in k s → (e : ℕ) → e ≡ end_of_prefix p → (d : Dir) → d ≡ dir_of k p s e → (n : ℕ) → n ≡ dir_len d → (r : Seps) → r ≡ inner_seps k p → OpenAt k s (record { prefix = p; end = e; dir = d; at = e + n; seps = r })
+pub begin_is : (k : Seps) (s : List ℕ) (p : Option Prefix) → p ≡ prefix_in k s → (e : ℕ) → e ≡ end_of_prefix p → (d : Dir) → d ≡ dir_of k p s e → (n : ℕ) → n ≡ dir_len d → (r : Seps) → r ≡ inner_seps k p → OpenAt k s (record { prefix = p; end = e; dir = d; at = e + n; seps = r })
 begin_is k s p f e g d h n l r j = parsed_open k s p f e g d h _ (with_is k p e d n l r j)
 
 -- `plain_start`
-module _ (k : Seps) (s : List ℕ) (f : prefix_in k s ≡ Nothing) (d : Dir) (h : d ≡ dir_of k Nothing s 0) where
+module _ (k : Seps) (s : List ℕ) (f : prefix_in k s ≡ None) (d : Dir) (h : d ≡ dir_of k None s 0) where
   pub plain_small : length s * 1 < 2 ^ 63 → 0 + dir_len d < 2 ^ 63
-  plain_small w = parsed_small k s Nothing (sym f) 0 refl d h w
+  plain_small w = parsed_small k s None (sym f) 0 refl d h w
 
-  pub plain_open : (r : Start) → r ≡ start_with k Nothing 0 d → OpenAt k s r
-  plain_open r j = parsed_open k s Nothing (sym f) 0 refl d h r j
+  pub plain_open : (r : Start) → r ≡ start_with k None 0 d → OpenAt k s r
+  plain_open r j = parsed_open k s None (sym f) 0 refl d h r j
 
 -- `drive_start`
 module _ (k : Seps) (s : List ℕ) (w : k ≡ Windows) (h : drive s ≡ true) where
-  on_disk_lem : prefix_in k s ≡ Is (Disk (capital (get_or s 0 0)))
+  on_disk_lem : prefix_in k s ≡ Some (Disk (capital (get_or s 0 0)))
   on_disk_lem = rw w (drive_disk s h)
 
   pub drive_some : 0 < length s
   drive_some = omega (arith, drive_long s h)
 
-  module _ (c : ℕ) (e : c ≡ capital (get_or s 0 0)) (d : Dir) (g : d ≡ dir_of k (Is (Disk c)) s 2) where
-    letter : Is (Disk c) ≡ prefix_in k s
+  module _ (c : ℕ) (e : c ≡ capital (get_or s 0 0)) (d : Dir) (g : d ≡ dir_of k (Some (Disk c)) s 2) where
+    letter : Some (Disk c) ≡ prefix_in k s
     letter = rw e (sym on_disk_lem)
 
     pub drive_small : length s * 1 < 2 ^ 63 → 2 + dir_len d < 2 ^ 63
-    drive_small l = parsed_small k s (Is (Disk c)) letter 2 refl d g l
+    drive_small l = parsed_small k s (Some (Disk c)) letter 2 refl d g l
 
-    pub drive_open : (r : Start) → r ≡ start_with k (Is (Disk c)) 2 d → OpenAt k s r
-    drive_open r j = parsed_open k s (Is (Disk c)) letter 2 refl d g r j
+    pub drive_open : (r : Start) → r ≡ start_with k (Some (Disk c)) 2 d → OpenAt k s r
+    drive_open r j = parsed_open k s (Some (Disk c)) letter 2 refl d g r j
 
 -- `begin`: where there is no prefix
-pub unix_plain : (k : Seps) (s : List ℕ) → k ≡ Unix → prefix_in k s ≡ Nothing
+pub unix_plain : (k : Seps) (s : List ℕ) → k ≡ Unix → prefix_in k s ≡ None
 unix_plain k s e = rw e
 
-pub verbatim_plain : (k : Seps) (s : List ℕ) → k ≡ OnlyBack → prefix_in k s ≡ Nothing
+pub verbatim_plain : (k : Seps) (s : List ℕ) → k ≡ OnlyBack → prefix_in k s ≡ None
 verbatim_plain k s e = rw e
 
 no_begin : (s : List ℕ) → sep_at Windows s 0 ≡ false → begins (92 ∷ 92 ∷ []) s ≡ false
@@ -182,7 +177,7 @@ no_begin (x ∷ s) h =
     (λ e. absurd (false≢true (sym (rw e at g))))
     (λ e. simp (e, rw e at g))
 
-pub windows_plain : (k : Seps) (s : List ℕ) (b c : Bool) → k ≡ Windows → b ≡ drive s → b ≡ false → c ≡ sep_at k s 0 → c ≡ false → prefix_in k s ≡ Nothing
+pub windows_plain : (k : Seps) (s : List ℕ) (b c : Bool) → k ≡ Windows → b ≡ drive s → b ≡ false → c ≡ sep_at k s 0 → c ≡ false → prefix_in k s ≡ None
 windows_plain k s b c w e f g h = rw w (bare_none s (sym e ∙ f) (no_begin s (rw w at (sym g ∙ h))))
 
 pub ruleset heads = (drive_told, sep_in, sep_past, dot_past, dot_not, dot_end, dot_sep, seps_behind, dir_dot, dir_bare, dir_prefix, dir_root, dir_else, end_within, with_fits, with_is, parsed_small, parsed_open, plain_small, plain_open, drive_some, drive_small, drive_open, unix_plain, verbatim_plain, windows_plain)
@@ -196,7 +191,7 @@ module _ (k : Seps) (s : List ℕ) where
   pub begun_body : (h : Start) → OpenAt k s h → BodyAt k s (record { at = h.at; seps = h.seps })
   begun_body h o = record { place = ap (λ (x : Start). x.at) o.is; by = ap (λ (x : Start). x.seps) o.is }
 
-  module _ (f : prefix_in k s ≡ Nothing) (b : Bool) (e : b ≡ sep_at k s 0) where
+  module _ (f : prefix_in k s ≡ None) (b : Bool) (e : b ≡ sep_at k s 0) where
     pub plain_rooted : b ≡ true → BodyAt k s (record { at = 1; seps = k })
     unfolding start_of dir_of
     plain_rooted y = record { place = rw (f, sym e ∙ y); by = rw f }
@@ -223,9 +218,9 @@ pub ruleset bodies = (begun_body, plain_rooted, plain_dotted, plain_bare, drive_
 
 -- ---- the head's elements
 
-prefix_long : (p : Parsed) (a e : ℕ) → length (prefix_part p a) ≡ length (prefix_part p e)
-prefix_long Nothing a e = refl
-prefix_long (Is p) a e = refl
+prefix_long : (p : Option Prefix) (a e : ℕ) → length (prefix_part p a) ≡ length (prefix_part p e)
+prefix_long None a e = refl
+prefix_long (Some p) a e = refl
 
 dir_long : (d : Dir) (a e : ℕ) → length (dir_part d a) ≡ length (dir_part d e)
 dir_long Bare a e = refl
@@ -233,9 +228,9 @@ dir_long Root a e = refl
 dir_long Implied a e = refl
 dir_long Dot a e = refl
 
-prefix_few : (p : Parsed) (e : ℕ) → length (prefix_part p e) ≤ 1
-prefix_few Nothing e = omega arith
-prefix_few (Is p) e = omega arith
+prefix_few : (p : Option Prefix) (e : ℕ) → length (prefix_part p e) ≤ 1
+prefix_few None e = omega arith
+prefix_few (Some p) e = omega arith
 
 pub dir_few : (d : Dir) (e : ℕ) → length (dir_part d e) ≤ 1
 dir_few Bare e = omega arith
@@ -262,46 +257,46 @@ module _ (h : Start) (a b : ℕ) (e : a ≡ length (prefix_part h.prefix 0)) (f 
 
 -- `dir_item`
 module _ (d : Dir) (e : ℕ) where
-  pub item_bare : d ≡ Bare → Missing ≡ nth_of (dir_part d e) 0
+  pub item_bare : d ≡ Bare → None ≡ nth_of (dir_part d e) 0
   unfolding nth_of
   item_bare h = rw h
 
-  pub item_root : d ≡ Root → Here (record { component = RootDir; start = e; len = 1 }) ≡ nth_of (dir_part d e) 0
+  pub item_root : d ≡ Root → Some (record { component = RootDir; start = e; len = 1 }) ≡ nth_of (dir_part d e) 0
   unfolding nth_of
   item_root h = rw h
 
-  pub item_implied : d ≡ Implied → Here (record { component = RootDir; start = e; len = 0 }) ≡ nth_of (dir_part d e) 0
+  pub item_implied : d ≡ Implied → Some (record { component = RootDir; start = e; len = 0 }) ≡ nth_of (dir_part d e) 0
   unfolding nth_of
   item_implied h = rw h
 
-  pub item_dot : d ≡ Dot → Here (record { component = CurDir; start = e; len = 1 }) ≡ nth_of (dir_part d e) 0
+  pub item_dot : d ≡ Dot → Some (record { component = CurDir; start = e; len = 1 }) ≡ nth_of (dir_part d e) 0
   unfolding nth_of
   item_dot h = rw h
 
 -- `head_at`
-dir_one : (d : Dir) (e f : ℕ) → (f ≡ 0 → ⊥) → nth_of (dir_part d e) f ≡ Missing
+dir_one : (d : Dir) (e f : ℕ) → (f ≡ 0 → ⊥) → nth_of (dir_part d e) f ≡ None
 dir_one d e f h = nth_past (dir_part d e) f (omega (arith, dir_few d e))
 
 module _ (h : Start) (f : ℕ) where
-  module _ (p : h.prefix ≡ Nothing) where
-    pub head_dir : (r : Item) → r ≡ nth_of (dir_part h.dir h.end) 0 → f ≡ 0 → r ≡ nth_of (head_list h) f
+  module _ (p : h.prefix ≡ None) where
+    pub head_dir : (r : Option Element) → r ≡ nth_of (dir_part h.dir h.end) 0 → f ≡ 0 → r ≡ nth_of (head_list h) f
     unfolding head_list
     head_dir r e z = e ∙ rw (p, z)
 
-    pub head_none : (f ≡ 0 → ⊥) → Missing ≡ nth_of (head_list h) f
+    pub head_none : (f ≡ 0 → ⊥) → None ≡ nth_of (head_list h) f
     unfolding head_list
     head_none n = rw p (sym (dir_one h.dir h.end f n))
 
-  module _ (q : Prefix) (p : h.prefix ≡ Is q) where
-    pub head_prefix : f ≡ 0 → Here (record { component = Prefixed q; start = 0; len = h.end }) ≡ nth_of (head_list h) f
+  module _ (q : Prefix) (p : h.prefix ≡ Some q) where
+    pub head_prefix : f ≡ 0 → Some (record { component = Prefixed q; start = 0; len = h.end }) ≡ nth_of (head_list h) f
     unfolding head_list nth_of
     head_prefix z = rw (p, z)
 
-    pub head_second : (r : Item) → r ≡ nth_of (dir_part h.dir h.end) 0 → (f ≡ 0 → ⊥) → f ≡ 1 → r ≡ nth_of (head_list h) f
+    pub head_second : (r : Option Element) → r ≡ nth_of (dir_part h.dir h.end) 0 → (f ≡ 0 → ⊥) → f ≡ 1 → r ≡ nth_of (head_list h) f
     unfolding head_list nth_of
     head_second r e n z = e ∙ rw (p, z)
 
-    pub head_third : (f ≡ 0 → ⊥) → (f ≡ 1 → ⊥) → Missing ≡ nth_of (head_list h) f
+    pub head_third : (f ≡ 0 → ⊥) → (f ≡ 1 → ⊥) → None ≡ nth_of (head_list h) f
     head_third n m = sym (nth_past (head_list h) f (omega (arith, head_few h)))
 
 -- ---- the whole list
@@ -309,11 +304,11 @@ module _ (h : Start) (f : ℕ) where
 -- `element_of`, `total_of`
 module _ (h : Start) (s : List ℕ) (n : ℕ) (c : CountAt (head_list h) n) where
   module _ (f : ℕ) where
-    pub whole_head : (r : Item) → f < n → r ≡ nth_of (head_list h) f → r ≡ nth_of (whole_of h s) f
+    pub whole_head : (r : Option Element) → f < n → r ≡ nth_of (head_list h) f → r ≡ nth_of (whole_of h s) f
     unfolding whole_of
     whole_head r l e = e ∙ sym (nth_append (head_list h) (body_list h s) f (omega (arith, c.is)))
 
-    pub whole_body : (p : Piece) (r : Item) → n ≤ f → raised p ≡ nth_of (from (is_sep h.seps) (dots h.seps) s h.at) (f - n) → r ≡ raised p → r ≡ nth_of (whole_of h s) f
+    pub whole_body : (p : Option Part) (r : Option Element) → n ≤ f → raised p ≡ nth_of (from (is_sep h.seps) (dots h.seps) s h.at) (f - n) → r ≡ raised p → r ≡ nth_of (whole_of h s) f
     unfolding whole_of body_list
     whole_body p r l e g = g ∙ e ∙ rw c.is (sym (nth_behind (head_list h) (body_list h s) f (omega (arith, c.is))))
 
@@ -333,14 +328,14 @@ body_within : (h : Start) (s : List ℕ) → body_list h s ≡ within (is_sep h.
 unfolding body_list within
 body_within h s = rw (take-length s)
 
-module _ (h : Start) (s : List ℕ) (b : ℕ) (p : Back) (e : BackAt (within (is_sep h.seps) (dots h.seps) s h.at (length s)) b p) where
-  pub back_at : (q : Part) (r : Item) → p ≡ At q → r ≡ raised (Found q) → r ≡ nth_back_of (whole_of h s) b
+module _ (h : Start) (s : List ℕ) (b : ℕ) (p : Result Part ℕ) (e : BackAt (within (is_sep h.seps) (dots h.seps) s h.at (length s)) b p) where
+  pub back_at : (q : Part) (r : Option Element) → p ≡ Ok q → r ≡ raised (Some q) → r ≡ nth_back_of (whole_of h s) b
   unfolding whole_of
   back_at q r g f =
-      let t : Here (lift q) ≡ nth_back_of (body_list h s) b = rw (body_within h s) (rw g at e) in
+      let t : Some (lift q) ≡ nth_back_of (body_list h s) b = rw (body_within h s) (rw g at e) in
       f ∙ t ∙ sym (back_behind (head_list h) (body_list h s) b (back_inside_of (body_list h s) b {p = lift q} (sym t)))
 
-  pub back_left : (c : ℕ) (r : Item) → p ≡ Left c → r ≡ nth_back_of (head_list h) c → r ≡ nth_back_of (whole_of h s) b
+  pub back_left : (c : ℕ) (r : Option Element) → p ≡ Err c → r ≡ nth_back_of (head_list h) c → r ≡ nth_back_of (whole_of h s) b
   unfolding whole_of
   back_left c r g f =
       let t : length (body_list h s) + c ≡ b = rw (body_within h s) (rw g at e) in
@@ -349,10 +344,10 @@ module _ (h : Start) (s : List ℕ) (b : ℕ) (p : Back) (e : BackAt (within (is
 
 -- `head_back`
 module _ (h : Start) (b n : ℕ) (c : CountAt (head_list h) n) where
-  pub head_back : (r : Item) → b < n → r ≡ nth_of (head_list h) (n - 1 - b) → r ≡ nth_back_of (head_list h) b
+  pub head_back : (r : Option Element) → b < n → r ≡ nth_of (head_list h) (n - 1 - b) → r ≡ nth_back_of (head_list h) b
   head_back r l f = f ∙ sym (back_nth (head_list h) b (omega (arith, c.is)) ∙ rw c.is)
 
-  pub head_out : n ≤ b → Missing ≡ nth_back_of (head_list h) b
+  pub head_out : n ≤ b → None ≡ nth_back_of (head_list h) b
   head_out l = sym (back_past (head_list h) b (omega (arith, c.is)))
 
 -- `element`, `element_back`, `total`
@@ -361,10 +356,10 @@ module _ (k : Seps) (s : List ℕ) (h : Start) (o : OpenAt k s h) where
   unfolding list_of
   whole_list = rw o.is
 
-  pub element_is : (f : ℕ) (r : Item) → r ≡ nth_of (whole_of h s) f → r ≡ nth_of (list_of k s) f
+  pub element_is : (f : ℕ) (r : Option Element) → r ≡ nth_of (whole_of h s) f → r ≡ nth_of (list_of k s) f
   element_is f r e = rw (← whole_list) e
 
-  pub element_back_is : (b : ℕ) (r : Item) → r ≡ nth_back_of (whole_of h s) b → r ≡ nth_back_of (list_of k s) b
+  pub element_back_is : (b : ℕ) (r : Option Element) → r ≡ nth_back_of (whole_of h s) b → r ≡ nth_back_of (list_of k s) b
   element_back_is b r e = rw (← whole_list) e
 
   pub total_of_list : (r : ℕ) → CountAt (whole_of h s) r → CountAt (list_of k s) r
@@ -372,26 +367,26 @@ module _ (k : Seps) (s : List ℕ) (h : Start) (o : OpenAt k s h) where
 
 -- `last_element`
 module _ (k : Seps) (s : List ℕ) where
-  module _ (w : Body) (o : BodyAt k s w) (p : Piece) (f : LastAt (is_sep w.seps) (dots w.seps) s w.at (length s) p) where
+  module _ (w : Body) (o : BodyAt k s w) (p : Option Part) (f : LastAt (is_sep w.seps) (dots w.seps) s w.at (length s) p) where
     pub last_begun : LastAt (is_sep (start_of k s).seps) (dots (start_of k s).seps) s (start_of k s).at (length s) p
     last_begun = rw (← o.place, ← o.by) f
 
-    pub last_part : (q : Part) (r : Item) → p ≡ Found q → r ≡ raised (Found q) → r ≡ nth_back_of (list_of k s) 0
+    pub last_part : (q : Part) (r : Option Element) → p ≡ Some q → r ≡ raised (Some q) → r ≡ nth_back_of (list_of k s) 0
     unfolding list_of
-    last_part q r g z = back_at (start_of k s) s 0 (At q) (rw g at (last_one _ _ s _ _ p last_begun)) q r refl z
+    last_part q r g z = back_at (start_of k s) s 0 (Ok q) (rw g at (last_one _ _ s _ _ p last_begun)) q r refl z
 
-    pub last_behind : (q : Part) → p ≡ Found q → length (head_list (start_of k s)) < length (list_of k s)
+    pub last_behind : (q : Part) → p ≡ Some q → length (head_list (start_of k s)) < length (list_of k s)
     unfolding list_of whole_of
     last_behind q g =
-        let t : Here (lift q) ≡ nth_back_of (body_list (start_of k s) s) 0 = rw (body_within (start_of k s) s) (rw g at (last_one _ _ s _ _ p last_begun)) in
+        let t : Some (lift q) ≡ nth_back_of (body_list (start_of k s) s) 0 = rw (body_within (start_of k s) s) (rw g at (last_one _ _ s _ _ p last_begun)) in
         omega (arith, length-append (head_list (start_of k s)) (body_list (start_of k s) s), back_inside_of (body_list (start_of k s) s) 0 {p = lift q} (sym t))
 
-    pub last_head : (h : Start) (r : Item) → p ≡ NoPart → OpenAt k s h → r ≡ nth_back_of (head_list h) 0 → r ≡ nth_back_of (list_of k s) 0
+    pub last_head : (h : Start) (r : Option Element) → p ≡ None → OpenAt k s h → r ≡ nth_back_of (head_list h) 0 → r ≡ nth_back_of (list_of k s) 0
     unfolding list_of
-    last_head h r g a z = back_left (start_of k s) s 0 (Left 0) (omega (arith, ap length (last_none last_begun g))) 0 r refl (rw (← a.is) z)
+    last_head h r g a z = back_left (start_of k s) s 0 (Err 0) (omega (arith, ap length (last_none last_begun g))) 0 r refl (rw (← a.is) z)
 
   -- `element_back`
-  pub last_zero : (b : ℕ) (r : Item) → b ≡ 0 → r ≡ nth_back_of (list_of k s) 0 → r ≡ nth_back_of (list_of k s) b
+  pub last_zero : (b : ℕ) (r : Option Element) → b ≡ 0 → r ≡ nth_back_of (list_of k s) 0 → r ≡ nth_back_of (list_of k s) b
   last_zero b r e z = rw e z
 
 pub ruleset lasts = (last_part, last_head, last_zero)
@@ -399,9 +394,9 @@ pub ruleset lasts = (last_part, last_head, last_zero)
 -- ---- the tests on the head
 
 -- a prefix that is no drive has a root
-abbrev Rooted : Parsed → Type 0
-Rooted Nothing = Unit
-Rooted (Is p) = is_disk p ≡ false
+abbrev Rooted : Option Prefix → Type 0
+Rooted None = Unit
+Rooted (Some p) = is_disk p ≡ false
 
 verbatim_rooted : (s : List ℕ) → is_disk (verbatim_of s) ≡ false
 unfolding verbatim_of
@@ -424,24 +419,24 @@ rooted s h =
     (λ _. rw h tt)
 
 module _ (k : Seps) (s : List ℕ) where
-  plain_has : prefix_in k s ≡ Nothing → has_root k s ≡ sep_at k s 0
+  plain_has : prefix_in k s ≡ None → has_root k s ≡ sep_at k s 0
   unfolding has_root start_of dir_of
   plain_has e =
       split (sep_at k s 0)
       (λ y. rw (e, y))
       (λ n. rw (e, n) (split (dot_at k s 0) (λ y. rw y) (λ y. rw y)))
 
-  disk_has : (c : ℕ) → prefix_in k s ≡ Is (Disk c) → has_root k s ≡ sep_at k s 2
+  disk_has : (c : ℕ) → prefix_in k s ≡ Some (Disk c) → has_root k s ≡ sep_at k s 2
   unfolding has_root start_of dir_of
   disk_has c e = split (sep_at k s 2) (λ y. rw (e, y)) (λ n. rw (e, n))
 
-  other_has : (p : Prefix) → prefix_in k s ≡ Is p → is_disk p ≡ false → has_root k s ≡ true
+  other_has : (p : Prefix) → prefix_in k s ≡ Some p → is_disk p ≡ false → has_root k s ≡ true
   unfolding has_root
   other_has p e f = rw (e, f) (split (is_root (start_of k s).dir) (λ y. rw y) (λ n. rw n))
 
-  rooted_has : (p : Parsed) → prefix_in k s ≡ p → Rooted p → sep_at k s 0 ≡ true → has_root k s ≡ true
-  rooted_has Nothing e t y = plain_has e ∙ y
-  rooted_has (Is p) e t y = other_has p e t
+  rooted_has : (p : Option Prefix) → prefix_in k s ≡ p → Rooted p → sep_at k s 0 ≡ true → has_root k s ≡ true
+  rooted_has None e t y = plain_has e ∙ y
+  rooted_has (Some p) e t y = other_has p e t
 
   -- `has_root`
   pub unix_root : (r : Bool) → k ≡ Unix → r ≡ sep_at k s 0 → r ≡ has_root k s
@@ -480,22 +475,22 @@ module _ (k : Seps) (s : List ℕ) (r : Bool) where
     unfolding is_absolute
     drive_absolute h f = drive_root k s w b e r h f ∙ rw (on_disk_lem k s w (sym e ∙ h), w)
 
-    pub other_absolute : (p : Parsed) → b ≡ false → p ≡ prefix_in k s → r ≡ has_prefix p → r ≡ is_absolute k s
+    pub other_absolute : (p : Option Prefix) → b ≡ false → p ≡ prefix_in k s → r ≡ has_prefix p → r ≡ is_absolute k s
     unfolding is_absolute
     other_absolute p h f g = g ∙ rw w (go p (sym f) (rw (← f) at (no_drive k s w b e h)))
       where
-        go : (p : Parsed) → prefix_in k s ≡ p → Rooted p → has_prefix p ≡ cond (wants_prefix Windows (prefix_in Windows s)) false (has_root Windows s)
-        go Nothing i t = rw (rw w at i)
-        go (Is q) i t = rw (rw w at i) (sym (other_has Windows s q (rw w at i) t))
+        go : (p : Option Prefix) → prefix_in k s ≡ p → Rooted p → has_prefix p ≡ cond (wants_prefix Windows (prefix_in Windows s)) false (has_root Windows s)
+        go None i t = rw (rw w at i)
+        go (Some q) i t = rw (rw w at i) (sym (other_has Windows s q (rw w at i) t))
 
 pub ruleset lists = (drive_told, item_bare, item_root, item_implied, item_dot, count_sum, count_head, head_dir, head_none, head_prefix, head_second, head_third, whole_head, whole_body, total_fits, total_is, back_at, back_left, head_back, head_out, element_is, element_back_is, total_of_list, unix_root, verbatim_root, drive_root, other_root, unix_absolute, verbatim_absolute, drive_absolute, other_absolute)
 
 -- ---- the list lies in the path, and has few elements
 
-prefix_upto : (m : ℕ) (p : Parsed) (e : ℕ) → e ≤ m → Upto m (prefix_part p e)
+prefix_upto : (m : ℕ) (p : Option Prefix) (e : ℕ) → e ≤ m → Upto m (prefix_part p e)
 unfolding Upto
-prefix_upto m Nothing e h = tt
-prefix_upto m (Is p) e h = (omega arith, tt)
+prefix_upto m None e h = tt
+prefix_upto m (Some p) e h = (omega arith, tt)
 
 dir_upto : (m : ℕ) (d : Dir) (e : ℕ) → e + dir_len d ≤ m → Upto m (dir_part d e)
 unfolding Upto

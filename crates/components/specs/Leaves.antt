@@ -1,15 +1,15 @@
 -- What the leaves promise to their callers beside the equation. Nothing here has to be believed.
-use Rattle.std.specs.Prelude.{ℕ, ◌+◌, ◌^◌, ◌<◌, ◌≤◌, ◌≡◌, List, length}
+use Rattle.std.specs.Prelude.{ℕ, ◌+◌, ◌^◌, ◌<◌, ◌≤◌, ◌≡◌, List, length, Option}
 use Rattle.octets.specs.declared.Seps.{Seps}
 use Rattle.parts.specs.declared.Element.{Element}
 use Rattle.components.specs.declared.Start.{Start}
 use Rattle.components.specs.declared.Body.{Body}
-use Rattle.prefixes.specs.declared.Parsed.{Parsed}
 use Rattle.components.specs.declared.Dir.{Dir}
 use Rattle.components.specs.List.{inner_seps, dir_len, start_of}
+use Rattle.prefixes.specs.declared.Prefix.{Prefix}
 
 -- a start by its parts
-unfoldable pub start_with : Seps → Parsed → ℕ → Dir → Start
+unfoldable pub start_with : Seps → Option Prefix → ℕ → Dir → Start
 start_with k p e d = record { prefix = p; end = e; dir = d; at = e + dir_len d; seps = inner_seps k p }
 
 -- where the body of s starts, and that it does so in the path

@@ -1,12 +1,10 @@
 -- A path's list of components. Document 01, "The component list". k is the set of separators of the mode, Unix or Windows.
-use Rattle.std.specs.Prelude.{ℕ, ◌+◌, List, [], ◌∷◌, ◌++◌, Bool, true, false, not, cond, length, get_or, eqb, ltb}
+use Rattle.std.specs.Prelude.{ℕ, ◌+◌, List, [], ◌∷◌, ◌++◌, Bool, true, false, not, cond, length, get_or, eqb, ltb, Option, Some, None}
 use Rattle.octets.specs.Class.{is_sep}
 use Rattle.octets.specs.declared.Seps.{Seps}
 use Rattle.octets.specs.declared.Seps.TheVariants.{Unix, Windows, Verbatim as OnlyBack}
 use Rattle.prefixes.specs.declared.Prefix.{Prefix}
 use Rattle.prefixes.specs.declared.Prefix.TheVariants.{Verbatim, VerbatimUnc, VerbatimDisk, DeviceNs, Unc, Disk}
-use Rattle.prefixes.specs.declared.Parsed.{Parsed}
-use Rattle.prefixes.specs.declared.Parsed.TheVariants.{Nothing, Is}
 use Rattle.prefixes.specs.Prefix.{prefix_in, end_of_prefix, has_prefix, is_disk}
 use Rattle.parts.specs.Body.{dots, from}
 use Rattle.parts.specs.declared.Component.TheVariants.{Prefix as Prefixed, RootDir, CurDir}
@@ -32,9 +30,9 @@ prefix_seps k (DeviceNs n) = k
 prefix_seps k (Unc n) = k
 prefix_seps k (Disk d) = k
 
-abbrev pub inner_seps : Seps → Parsed → Seps
-inner_seps k Nothing = k
-inner_seps k (Is p) = prefix_seps k p
+abbrev pub inner_seps : Seps → Option Prefix → Seps
+inner_seps k None = k
+inner_seps k (Some p) = prefix_seps k p
 
 -- 2. "RootDir if the next byte is a separator (`/` counts even after VerbatimDisk), extent one byte. Else, for UNC and
 -- DeviceNS, RootDir with an empty extent. Else, with no prefix, CurDir if the path's first segment is `.`."
@@ -46,11 +44,11 @@ prefix_dir (DeviceNs n) = Implied
 prefix_dir (Unc n) = Implied
 prefix_dir (Disk d) = Bare
 
-abbrev pub behind_prefix : Seps → Parsed → List ℕ → Dir
-behind_prefix k Nothing s = cond (dot_at k s 0) Dot Bare
-behind_prefix k (Is p) s = prefix_dir p
+abbrev pub behind_prefix : Seps → Option Prefix → List ℕ → Dir
+behind_prefix k None s = cond (dot_at k s 0) Dot Bare
+behind_prefix k (Some p) s = prefix_dir p
 
-unfoldable pub dir_of : Seps → Parsed → List ℕ → ℕ → Dir
+unfoldable pub dir_of : Seps → Option Prefix → List ℕ → ℕ → Dir
 dir_of k p s e = cond (sep_at k s e) Root (behind_prefix k p s)
 
 -- how many bytes it takes
@@ -72,9 +70,9 @@ start_of k s =
     }
 
 -- 1. "The prefix, if any." It ends at e.
-abbrev pub prefix_part : Parsed → ℕ → List Element
-prefix_part Nothing e = []
-prefix_part (Is p) e = record { component = Prefixed p; start = 0; len = e } ∷ []
+abbrev pub prefix_part : Option Prefix → ℕ → List Element
+prefix_part None e = []
+prefix_part (Some p) e = record { component = Prefixed p; start = 0; len = e } ∷ []
 
 -- 2., behind a prefix that ends at e
 abbrev pub dir_part : Dir → ℕ → List Element
@@ -104,15 +102,15 @@ is_root Root = true
 is_root Implied = false
 is_root Dot = false
 
-abbrev pub rootless : Parsed → Bool
-rootless Nothing = true
-rootless (Is p) = is_disk p
+abbrev pub rootless : Option Prefix → Bool
+rootless None = true
+rootless (Some p) = is_disk p
 
 unfoldable pub has_root : Seps → List ℕ → Bool
 has_root k s = cond (is_root (start_of k s).dir) true (not (rootless (prefix_in k s)))
 
 -- "Absolute: Unix, has a root; Windows, has a root and a prefix."
-abbrev pub wants_prefix : Seps → Parsed → Bool
+abbrev pub wants_prefix : Seps → Option Prefix → Bool
 wants_prefix Unix p = false
 wants_prefix Windows p = not (has_prefix p)
 wants_prefix OnlyBack p = false

@@ -3,7 +3,7 @@ use Prim.Native.Nat.{ℕ, zero, suc, ◌+◌, ◌-◌, ◌<◌, ◌≤◌}
 use Rattle.std.specs.Int.{w64}
 use Rattle.std.proofs.Common.{Fits, arith, not-suc-le-zero, le_of_suc-le-suc, ◌∙◌, take-append-drop, length-take-le, lt-ltb, le-ltb, ne_eqb}
 use Rattle.std.proofs.Math.Numerals.{add-one}
-use Rattle.std.specs.Prelude.{◌≡◌, Bool, true, false, length, take}
+use Rattle.std.specs.Prelude.{◌≡◌, Bool, true, false, length, take, Option, Some, None}
 use Rattle.std.proofs.Math.Path.{refl, sym, ap}
 use mathlib.Core.List.{List, [], ◌∷◌, ◌++◌, append_assoc}
 use Rattle.std.proofs.lemmas.Bool.{false≢true}
@@ -15,32 +15,22 @@ use Rattle.octets.specs.Laws.{split}
 use Rattle.octets.specs.declared.Seps.{Seps}
 use Rattle.prefixes.specs.Prefix.{on_disk}
 use Rattle.parts.specs.declared.Element.{Element}
-use Rattle.parts.specs.declared.Item.{Item}
-use Rattle.parts.specs.declared.Item.TheVariants.{Here}
 use Rattle.parts.specs.declared.Part.{Part}
-use Rattle.parts.specs.declared.Piece.{Piece}
-use Rattle.parts.specs.declared.Piece.TheVariants.{Found}
-use Rattle.parts.specs.declared.Sort.{Sort}
-use Rattle.parts.specs.declared.Sort.TheVariants.{Skip, Is as Sorted}
 use Rattle.parts.specs.Body.{sort_of, put, rest, from, dots}
 use Rattle.parts.specs.Elements.{nth_of, nth_back_of, start_or, end_or}
 use Rattle.parts.specs.Steps.{lift, raised, within, LastAt}
 use Rattle.parts.specs.Laws.{nth_inside, back_behind, back_inside_of, last_found}
-use Rattle.prefixes.specs.declared.Parsed.{Parsed}
-use Rattle.prefixes.specs.declared.Parsed.TheVariants.{Nothing as Bare, Is as Prefixed}
 use Rattle.components.specs.declared.Start.{Start}
 use Rattle.components.specs.declared.Body.{Body}
 use Rattle.components.specs.List.{prefix_part, dir_part, head_list, body_list, whole_of, list_of, start_of}
 use Rattle.components.specs.Leaves.{OpenAt, BodyAt, CountAt}
 use Rattle.components.specs.Laws.{whole_list, whole_body, head_few, open_start, last_part, last_behind}
 use Rattle.cursors.specs.declared.Span.{Span}
-use Rattle.cursors.specs.declared.Seen.{Seen}
-use Rattle.cursors.specs.declared.Seen.TheVariants.{Is}
-use Rattle.cursors.specs.declared.Remains.{Remains}
-use Rattle.cursors.specs.declared.Remains.TheVariants.{Is as Rests}
 use Rattle.cursors.specs.Rest.{span, left_end, right_end, dotted, behind_dot, rest_of, rest_asked}
 use Rattle.cursors.specs.Leaves.{In, SeenAt}
 use Rattle.cursors.specs.Laws.{left_zero, left_later, dot_far, dot_plain, back_small}
+use Rattle.parts.specs.declared.Kind.{Kind}
+use Rattle.prefixes.specs.declared.Prefix.{Prefix}
 
 -- ---- what stands from an element's own place on
 
@@ -50,10 +40,10 @@ module _ (sep : ℕ → Bool) (v : Bool) (s : List ℕ) where
   Onward [] = Unit
   Onward (p ∷ l) = (p ∷ l ≡ from sep v s p.start) × Onward l
 
-  put_onward : (i : ℕ) (xs : List ℕ) → drop i s ≡ xs → (q : Sort) → sort_of v (lead sep xs) ≡ q → Onward (rest sep v i xs) → Onward (put q i (length (lead sep xs)) (rest sep v i xs))
+  put_onward : (i : ℕ) (xs : List ℕ) → drop i s ≡ xs → (q : Option Kind) → sort_of v (lead sep xs) ≡ q → Onward (rest sep v i xs) → Onward (put q i (length (lead sep xs)) (rest sep v i xs))
   unfolding Onward from
-  put_onward i xs e Skip g u = u
-  put_onward i xs e (Sorted q) g u = (rw (e, g), u)
+  put_onward i xs e None g u = u
+  put_onward i xs e (Some q) g u = (rw (e, g), u)
 
   rest_onward : (i : ℕ) (xs : List ℕ) → drop i s ≡ xs → Onward (rest sep v i xs)
   unfolding rest Onward
@@ -81,14 +71,14 @@ head_low h n f c g = omega (arith, head_few h, c.is)
 far : (d : Bool) (n f b : ℕ) → 2 ≤ f → behind_dot d n f b ≡ false
 far d n f b g = split d (λ t. sym (dot_far d n f b t g)) (λ t. sym (dot_plain d n f b t))
 
-module _ (h : Start) (s : List ℕ) (f b n : ℕ) (c : CountAt (head_list h) n) (w : In h s) (g : 2 ≤ f) (p : Piece) (e : raised p ≡ nth_of (from (is_sep h.seps) (dots h.seps) s h.at) (f - n)) (x : Part) (i : p ≡ Found x) (q : Piece) (d : raised q ≡ nth_back_of (within (is_sep h.seps) (dots h.seps) s x.start (length s)) b) (y : Part) (j : q ≡ Found y) where
+module _ (h : Start) (s : List ℕ) (f b n : ℕ) (c : CountAt (head_list h) n) (w : In h s) (g : 2 ≤ f) (p : Option Part) (e : raised p ≡ nth_of (from (is_sep h.seps) (dots h.seps) s h.at) (f - n)) (x : Part) (i : p ≡ Some x) (q : Option Part) (d : raised q ≡ nth_back_of (within (is_sep h.seps) (dots h.seps) s x.start (length s)) b) (y : Part) (j : q ≡ Some y) where
   abbrev all : List Element
   all = from (is_sep h.seps) (dots h.seps) s h.at
 
   abbrev tail : List Element
   tail = from (is_sep h.seps) (dots h.seps) s x.start
 
-  here : nth_of all (f - n) ≡ Here (lift x)
+  here : nth_of all (f - n) ≡ Some (lift x)
   here = sym e ∙ rw i
 
   low : f - n < length all
@@ -101,7 +91,7 @@ module _ (h : Start) (s : List ℕ) (f b n : ℕ) (c : CountAt (head_list h) n) 
   unfolding whole_of body_list
   whole = ap (λ (m : List Element). head_list h ++ m) cut ∙ sym (append_assoc (head_list h) (take (f - n) all) tail)
 
-  there : nth_back_of tail b ≡ Here (lift y)
+  there : nth_back_of tail b ≡ Some (lift y)
   unfolding within
   there = rw (take-length s, j) at (sym d)
 
@@ -115,47 +105,47 @@ module _ (h : Start) (s : List ℕ) (f b n : ℕ) (c : CountAt (head_list h) n) 
   right = rw (whole, back_behind (head_list h ++ take (f - n) all) tail b below, there)
 
   left : x.start ≡ left_end (whole_of h s) f
-  left = left_later (whole_of h s) f (Here (lift x)) x.start (λ z. omega arith) (λ z. omega arith) (whole_body h s n c f p (Here (lift x)) (head_low h n f c g) e (rw i)) refl
+  left = left_later (whole_of h s) f (Some (lift x)) x.start (λ z. omega arith) (λ z. omega arith) (whole_body h s n c f p (Some (lift x)) (head_low h n f c g) e (rw i)) refl
 
   pub between_fits : Fits w64 (y.start + y.len)
   between_fits = record { fits = rw (← right) (omega (arith, back_small h s w (nth_back_of (whole_of h s) b) b refl)) }
 
-  pub between_is : SeenAt h s f b (Is (span x.start (y.start + y.len)))
+  pub between_is : SeenAt h s f b (Some (span x.start (y.start + y.len)))
   unfolding rest_of
   between_is = record { is = (rw (far (dotted h s) (length (whole_of h s)) f b g, ← left, right) (simp (lt-ltb (f + b) (length (whole_of h s)) (omega (arith, long, below)))), omega (arith, long, below)) }
 
 -- `rest_back`
-pub back_is : (h : Start) (s : List ℕ) (b : ℕ) (i : Item) (e : Element) (z : ℕ) → dotted h s ≡ false → i ≡ nth_back_of (whole_of h s) b → i ≡ Here e → z ≡ end_or i → SeenAt h s 0 b (Is (span 0 z))
+pub back_is : (h : Start) (s : List ℕ) (b : ℕ) (i : Option Element) (e : Element) (z : ℕ) → dotted h s ≡ false → i ≡ nth_back_of (whole_of h s) b → i ≡ Some e → z ≡ end_or i → SeenAt h s 0 b (Some (span 0 z))
 unfolding rest_of
 back_is h s b i e z d g j m =
     let l = back_inside_of (whole_of h s) b {p = e} (sym g ∙ j) in
     record { is = (rw (m, g, ← dot_plain (dotted h s) (length (whole_of h s)) 0 b d, ← left_zero (whole_of h s) 0 refl) (simp (lt-ltb (0 + b) (length (whole_of h s)) (omega (arith, l)))), omega (arith, l)) }
 
 -- `rest_second`
-module _ (h : Start) (s : List ℕ) (b : ℕ) (p : Piece) (e : raised p ≡ nth_back_of (within (is_sep h.seps) (dots h.seps) s h.at (length s)) b) (x : Part) (i : p ≡ Found x) where
+module _ (h : Start) (s : List ℕ) (b : ℕ) (p : Option Part) (e : raised p ≡ nth_back_of (within (is_sep h.seps) (dots h.seps) s h.at (length s)) b) (x : Part) (i : p ≡ Some x) where
   abbrev parts : List Element
   parts = from (is_sep h.seps) (dots h.seps) s h.at
 
-  found : nth_back_of parts b ≡ Here (lift x)
+  found : nth_back_of parts b ≡ Some (lift x)
   unfolding within
   found = rw (take-length s, i) at (sym e)
 
   inside : b < length parts
   inside = back_inside_of parts b {p = lift x} found
 
-  last_is : Here (lift x) ≡ nth_back_of (whole_of h s) b
+  last_is : Some (lift x) ≡ nth_back_of (whole_of h s) b
   unfolding whole_of body_list
   last_is = sym (back_behind (head_list h) parts b inside ∙ found)
 
   pub second_fits : In h s → Fits w64 (x.start + x.len)
-  second_fits w = record { fits = omega (arith, back_small h s w (Here (lift x)) b last_is) }
+  second_fits w = record { fits = omega (arith, back_small h s w (Some (lift x)) b last_is) }
 
   module _ (n : ℕ) (c : CountAt (head_list h) n) (z : n ≡ 0 → ⊥) where
     far_in : 1 + b < length (whole_of h s)
     unfolding whole_of body_list
     far_in = omega (arith, inside, c.is, z, length-append (head_list h) parts)
 
-    pub second_is : (a : ℕ) → dotted h s ≡ false → a ≡ left_end (whole_of h s) 1 → SeenAt h s 1 b (Is (span a (x.start + x.len)))
+    pub second_is : (a : ℕ) → dotted h s ≡ false → a ≡ left_end (whole_of h s) 1 → SeenAt h s 1 b (Some (span a (x.start + x.len)))
     unfolding rest_of
     second_is a d g = record { is = (rw (← dot_plain (dotted h s) (length (whole_of h s)) 1 b d, g, ← last_is) (simp (lt-ltb (1 + b) (length (whole_of h s)) far_in)), omega (arith, far_in)) }
 
@@ -164,23 +154,23 @@ module _ (h : Start) (s : List ℕ) (r : Bool) (e : r ≡ dotted h s) where
   pub plain_is : r ≡ false → dotted h s ≡ false
   plain_is y = sym e ∙ y
 
-module _ (h : Start) (s : List ℕ) (f b : ℕ) (r : Seen) where
+module _ (h : Start) (s : List ℕ) (f b : ℕ) (r : Option Span) where
   pub seen_none : f ≡ 0 → SeenAt h s 0 b r → SeenAt h s f b r
   seen_none z t = rw z t
 
   pub seen_one : f ≤ 1 → (f ≡ 0 → ⊥) → SeenAt h s 1 b r → SeenAt h s f b r
   seen_one m z t = let e : f ≡ 1 = omega arith in rw e t
 
-pub seen_is : (k : Seps) (s : List ℕ) (h : Start) (f b : ℕ) (r : Seen) (w : Span) → OpenAt k s h → SeenAt h s f b r → r ≡ Is w → Rests w ≡ rest_asked k s f b
+pub seen_is : (k : Seps) (s : List ℕ) (h : Start) (f b : ℕ) (r : Option Span) (w : Span) → OpenAt k s h → SeenAt h s f b r → r ≡ Some w → Some w ≡ rest_asked k s f b
 unfolding rest_asked
 seen_is k s h f b r w o t g =
     let u = rw g at t.is in
     rw (← whole_list k s h o) (simp (le-ltb (length (whole_of h s)) (f + b) u.1) (rw (u.0, ← o.is)))
 
 -- `rest_whole`: where a part stands behind the head, a drive with its dot is not all there is
-disk_some : (p : Parsed) (e : ℕ) → on_disk p ≡ true → 1 ≤ length (prefix_part p e)
-disk_some Bare e y = absurd (false≢true y)
-disk_some (Prefixed p) e y = omega arith
+disk_some : (p : Option Prefix) (e : ℕ) → on_disk p ≡ true → 1 ≤ length (prefix_part p e)
+disk_some None e y = absurd (false≢true y)
+disk_some (Some p) e y = omega arith
 
 dotted_head : (h : Start) (s : List ℕ) → dotted h s ≡ true → 1 ≤ length (head_list h)
 unfolding dotted head_list
@@ -197,9 +187,9 @@ ends_last : (d : Bool) (l : List Element) (b : ℕ) → behind_dot d (length l) 
 unfolding rest_of
 ends_last d l b e h = rw (e, ← left_zero l 0 refl) (simp (lt-ltb (0 + b) (length l) (omega arith)))
 
-module _ (k : Seps) (s : List ℕ) (w : Body) (o : BodyAt k s w) (p : Piece) (f : LastAt (is_sep w.seps) (dots w.seps) s w.at (length s) p) (q : Part) (g : p ≡ Found q) where
-  last_here : nth_back_of (list_of k s) 0 ≡ Here (lift q)
-  last_here = sym (last_part k s w o p f q (Here (lift q)) g refl)
+module _ (k : Seps) (s : List ℕ) (w : Body) (o : BodyAt k s w) (p : Option Part) (f : LastAt (is_sep w.seps) (dots w.seps) s w.at (length s) p) (q : Part) (g : p ≡ Some q) where
+  last_here : nth_back_of (list_of k s) 0 ≡ Some (lift q)
+  last_here = sym (last_part k s w o p f q (Some (lift q)) g refl)
 
   not_alone : behind_dot (dotted (start_of k s) s) (length (list_of k s)) 0 0 ≡ false
   not_alone =
@@ -207,18 +197,18 @@ module _ (k : Seps) (s : List ℕ) (w : Body) (o : BodyAt k s w) (p : Piece) (f 
       (λ t. dot_over_all _ (length (list_of k s)) 0 0 (omega arith) (λ z. omega (arith, dotted_head (start_of k s) s t, last_behind k s w o p f q g)))
       (λ t. sym (dot_plain _ (length (list_of k s)) 0 0 t))
 
-  all_seen : SeenAt (start_of k s) s 0 0 (Is (span 0 (q.start + q.len)))
+  all_seen : SeenAt (start_of k s) s 0 0 (Some (span 0 (q.start + q.len)))
   unfolding list_of
   all_seen = record { is = (rw (← ends_last _ (list_of k s) 0 not_alone (omega (arith, last_behind k s w o p f q g)), last_here), omega arith) }
 
   pub all_fits : Fits w64 (q.start + q.len)
   all_fits = let t = last_found f g in record { fits = omega (arith, t.high, t.inside, t.room) }
 
-  pub all_is : Rests (span 0 (q.start + q.len)) ≡ rest_asked k s 0 0
+  pub all_is : Some (span 0 (q.start + q.len)) ≡ rest_asked k s 0 0
   all_is = seen_is k s (start_of k s) 0 0 _ _ (open_start k s) all_seen refl
 
 -- `rest_in`
-pub rest_zero : (k : Seps) (s : List ℕ) (f b : ℕ) (r : Remains) → f ≡ 0 → b ≡ 0 → r ≡ rest_asked k s 0 0 → r ≡ rest_asked k s f b
+pub rest_zero : (k : Seps) (s : List ℕ) (f b : ℕ) (r : Option Span) → f ≡ 0 → b ≡ 0 → r ≡ rest_asked k s 0 0 → r ≡ rest_asked k s f b
 rest_zero k s f b r z y e = rw (z, y) e
 
 pub ruleset alls = (all_fits, all_is, rest_zero)

@@ -1,5 +1,5 @@
 -- Laws of the cursor: one a way through each function.
-use Rattle.std.specs.Prelude.{ℕ, ◌+◌, ◌-◌, ◌*◌, ◌^◌, ◌<◌, ◌≤◌, List, Bool, true, false, length, eqb, ltb}
+use Rattle.std.specs.Prelude.{ℕ, ◌+◌, ◌-◌, ◌*◌, ◌^◌, ◌<◌, ◌≤◌, List, Bool, true, false, length, eqb, ltb, Option, Some, None}
 use Rattle.std.specs.Int.{w64}
 use Rattle.std.proofs.Common.{Fits, arith, sym, ◌∙◌}
 use Rattle.std.proofs.Math.Path.{◌≡◌}
@@ -8,8 +8,6 @@ use Rattle.octets.specs.Laws.{split}
 use Rattle.octets.specs.declared.Seps.{Seps}
 use Rattle.prefixes.specs.Prefix.{on_disk}
 use Rattle.parts.specs.declared.Element.{Element}
-use Rattle.parts.specs.declared.Item.{Item}
-use Rattle.parts.specs.declared.Item.TheVariants.{Here}
 use Rattle.parts.specs.Elements.{nth_of, nth_back_of, start_or, end_or}
 use Rattle.parts.specs.Laws.{upto_nth}
 use Rattle.components.specs.declared.Start.{Start}
@@ -17,9 +15,8 @@ use Rattle.components.specs.List.{dot_at, start_of, whole_of, list_of}
 use Rattle.components.specs.Leaves.{OpenAt, CountAt}
 use Rattle.components.specs.Laws.{whole_list, list_upto}
 use Rattle.cursors.specs.declared.Left.{Left}
-use Rattle.cursors.specs.declared.Left.TheVariants.{Beyond, Spent, Some}
+use Rattle.cursors.specs.declared.Left.TheVariants.{Beyond, Spent, More}
 use Rattle.cursors.specs.declared.Span.{Span}
-use Rattle.cursors.specs.declared.Remains.TheVariants.{Beyond as TooMany, Is as Rests}
 use Rattle.cursors.specs.Rest.{left_of, span, prefix_kind, is_prefix, left_end, right_end, empty_at, is_bare, dotted, behind_dot, rest_of, rest_asked}
 use Rattle.cursors.specs.Leaves.{In}
 
@@ -30,7 +27,7 @@ module _ (n f b : ℕ) where
   left_back h = simp (lt-ltb n (f + b) (omega arith))
 
   module _ (g : b ≤ n) where
-    pub left_some : f < n - b → Some ≡ left_of n f b
+    pub left_some : f < n - b → More ≡ left_of n f b
     unfolding left_of
     left_some h = simp (le-ltb n (f + b) (omega arith), ne_eqb (f + b) n (omega arith))
 
@@ -61,7 +58,7 @@ module _ (n f b : ℕ) where
       (λ u. eqb-true (f + b) n u)
       (λ u. let z = rw (t, u) at e in let y : ◌≡◌ {A = ℕ} 0 1 = cc in absurd (omega arith)))
 
-  pub some_says : left_of n f b ≡ Some → f + b < n
+  pub some_says : left_of n f b ≡ More → f + b < n
   unfolding left_of
   some_says e =
       split (ltb n (f + b)) (λ t. let z = rw t at e in let y : ◌≡◌ {A = ℕ} 0 1 = cc in absurd (omega arith)) (λ t. split (eqb (f + b) n)
@@ -69,7 +66,7 @@ module _ (n f b : ℕ) where
       (λ u. let g = ltb-false n (f + b) t in let m = eqb-false (f + b) n u in omega arith))
 
 -- `start_or`, `end_or`, `is_prefix`
-module _ (i : Item) (p : Element) (e : i ≡ Here p) where
+module _ (i : Option Element) (p : Element) (e : i ≡ Some p) where
   pub start_here : p.start ≡ start_or i
   start_here = rw e
 
@@ -83,7 +80,7 @@ module _ (i : Item) (p : Element) (e : i ≡ Here p) where
   prefix_here b f = f ∙ rw e
 
 -- each end lies in the path
-module _ (h : Start) (s : List ℕ) (w : In h s) (i : Item) where
+module _ (h : Start) (s : List ℕ) (w : In h s) (i : Option Element) where
   pub nth_small : (f : ℕ) → i ≡ nth_of (whole_of h s) f → end_or i < 2 ^ 63
   nth_small f e = rw e (omega (arith, upto_nth (length s) (whole_of h s) f w.upto, w.small))
 
@@ -93,10 +90,10 @@ module _ (h : Start) (s : List ℕ) (w : In h s) (i : Item) where
 
 -- `end_at`, `left_end`, `right_end`, `empty_at`
 module _ (l : List Element) where
-  pub end_nth : (f : ℕ) (i : Item) (r : ℕ) → i ≡ nth_of l f → r ≡ end_or i → r ≡ end_or (nth_of l f)
+  pub end_nth : (f : ℕ) (i : Option Element) (r : ℕ) → i ≡ nth_of l f → r ≡ end_or i → r ≡ end_or (nth_of l f)
   end_nth f i r e g = g ∙ rw e
 
-  pub right_nth : (b : ℕ) (i : Item) (r : ℕ) → i ≡ nth_back_of l b → r ≡ end_or i → r ≡ right_end l b
+  pub right_nth : (b : ℕ) (i : Option Element) (r : ℕ) → i ≡ nth_back_of l b → r ≡ end_or i → r ≡ right_end l b
   right_nth b i r e g = g ∙ rw e
 
   module _ (f : ℕ) where
@@ -107,7 +104,7 @@ module _ (l : List Element) where
     pub left_one : (r : ℕ) → f ≡ 1 → r ≡ left_end l 1 → r ≡ left_end l f
     left_one r z e = rw z e
 
-    pub left_later : (j : Item) (r : ℕ) → (f ≡ 0 → ⊥) → (f ≡ 1 → ⊥) → j ≡ nth_of l f → r ≡ start_or j → r ≡ left_end l f
+    pub left_later : (j : Option Element) (r : ℕ) → (f ≡ 0 → ⊥) → (f ≡ 1 → ⊥) → j ≡ nth_of l f → r ≡ start_or j → r ≡ left_end l f
     unfolding left_end
     left_later j r n m d h = h ∙ rw d (simp (ne_eqb f 0 n, ne_eqb f 1 m))
 
@@ -119,12 +116,12 @@ module _ (l : List Element) where
     unfolding empty_at
     empty_past r n e = e ∙ simp (ne_eqb f 0 n)
 
-  module _ (i : Item) (e : i ≡ nth_of l 0) (b : Bool) (g : b ≡ is_prefix i) where
+  module _ (i : Option Element) (e : i ≡ nth_of l 0) (b : Bool) (g : b ≡ is_prefix i) where
     pub left_prefix : (r : ℕ) → b ≡ true → r ≡ end_or i → r ≡ left_end l 1
     unfolding left_end
     left_prefix r y h = h ∙ rw (← e, ← g, y)
 
-    pub left_first : (j : Item) (r : ℕ) → b ≡ false → j ≡ nth_of l 1 → r ≡ start_or j → r ≡ left_end l 1
+    pub left_first : (j : Option Element) (r : ℕ) → b ≡ false → j ≡ nth_of l 1 → r ≡ start_or j → r ≡ left_end l 1
     unfolding left_end
     left_first j r y d h = h ∙ rw (d, ← e, ← g, y)
 
@@ -191,21 +188,21 @@ module _ (k : Seps) (s : List ℕ) (h : Start) (o : OpenAt k s h) where
   rest_in w = record { upto = list_upto k s h o; small = omega arith }
 
   module _ (n f b : ℕ) (c : CountAt (whole_of h s) n) where
-    asked : n < f + b → TooMany ≡ rest_asked k s f b
+    asked : n < f + b → None ≡ rest_asked k s f b
     unfolding rest_asked
     asked l = rw (← whole_list k s h o, ← c.is) (simp (lt-ltb n (f + b) l))
 
-    pub rest_front : n < f → TooMany ≡ rest_asked k s f b
+    pub rest_front : n < f → None ≡ rest_asked k s f b
     rest_front l = asked (omega arith)
 
     module _ (g : f ≤ n) where
-      pub rest_over : n - f < b → TooMany ≡ rest_asked k s f b
+      pub rest_over : n - f < b → None ≡ rest_asked k s f b
       rest_over l = asked (omega arith)
 
       pub rest_fits : b ≤ n - f → (n ≡ length (whole_of h s)) × (f + b ≤ n)
       rest_fits l = (c.is, omega arith)
 
-      pub rest_is : (r : Span) → b ≤ n - f → r ≡ rest_of (dotted h s) (whole_of h s) f b → Rests r ≡ rest_asked k s f b
+      pub rest_is : (r : Span) → b ≤ n - f → r ≡ rest_of (dotted h s) (whole_of h s) f b → Some r ≡ rest_asked k s f b
       unfolding rest_asked
       rest_is r l e = rw (← whole_list k s h o, ← c.is) (simp (le-ltb n (f + b) (omega arith)) (rw (e, ← o.is)))
 
@@ -213,11 +210,11 @@ pub ruleset cursors = (rest_dot, rest_some, rest_none, dot_fits, rest_in, rest_f
 
 -- what the rest's answer tells
 module _ (k : Seps) (s : List ℕ) (f b : ℕ) where
-  pub toomany_says : rest_asked k s f b ≡ TooMany → length (list_of k s) < f + b
+  pub toomany_says : rest_asked k s f b ≡ None → length (list_of k s) < f + b
   unfolding rest_asked
   toomany_says e = split (ltb (length (list_of k s)) (f + b)) (λ t. ltb-true _ _ t) (λ t. let z = rw t at e in let y : ◌≡◌ {A = ℕ} 0 1 = cc in absurd (omega arith))
 
-  pub rests_says : (w : Span) → rest_asked k s f b ≡ Rests w → (f + b ≤ length (list_of k s)) × (w ≡ rest_of (dotted (start_of k s) s) (list_of k s) f b)
+  pub rests_says : (w : Span) → rest_asked k s f b ≡ Some w → (f + b ≤ length (list_of k s)) × (w ≡ rest_of (dotted (start_of k s) s) (list_of k s) f b)
   unfolding rest_asked
   rests_says w e =
       split (ltb (length (list_of k s)) (f + b))

@@ -1,12 +1,10 @@
 -- What no step has taken. Document 01, "Rest". l is the path's list, f and b how many were taken at the front and at the back.
-use Rattle.std.specs.Prelude.{ℕ, ◌+◌, ◌-◌, List, Bool, true, false, cond, length, eqb, ltb}
+use Rattle.std.specs.Prelude.{ℕ, ◌+◌, ◌-◌, List, Bool, true, false, cond, length, eqb, ltb, Option, Some, None}
 use Rattle.octets.specs.declared.Seps.{Seps}
 use Rattle.prefixes.specs.Prefix.{on_disk}
 use Rattle.parts.specs.declared.Component.{Component}
 use Rattle.parts.specs.declared.Component.TheVariants.{Prefix, RootDir, CurDir, ParentDir, Normal}
 use Rattle.parts.specs.declared.Element.{Element}
-use Rattle.parts.specs.declared.Item.{Item}
-use Rattle.parts.specs.declared.Item.TheVariants.{Missing, Here}
 use Rattle.parts.specs.Elements.{nth_of, nth_back_of, start_or, end_or}
 use Rattle.components.specs.declared.Dir.{Dir}
 use Rattle.components.specs.declared.Dir.TheVariants.{Bare, Root, Implied, Dot}
@@ -15,14 +13,12 @@ use Rattle.answers.specs.declared.View.{View}
 use Rattle.answers.specs.Reply.{seen}
 use Rattle.cursors.specs.declared.Span.{Span}
 use Rattle.cursors.specs.declared.Left.{Left}
-use Rattle.cursors.specs.declared.Left.TheVariants.{Beyond, Spent, Some}
-use Rattle.cursors.specs.declared.Remains.{Remains}
-use Rattle.cursors.specs.declared.Remains.TheVariants.{Beyond as TooMany, Is as Rests}
+use Rattle.cursors.specs.declared.Left.TheVariants.{Beyond, Spent, More}
 use Rattle.components.specs.List.{dot_at, start_of, list_of}
 
 -- "more components taken than the path has"; "f + b equal to the list's length"; else some of the n are left
 unfoldable pub left_of : ℕ → ℕ → ℕ → Left
-left_of n f b = cond (ltb n (f + b)) Beyond (cond (eqb (f + b) n) Spent Some)
+left_of n f b = cond (ltb n (f + b)) Beyond (cond (eqb (f + b) n) Spent More)
 
 abbrev pub span : ℕ → ℕ → Span
 span a e = record { start = a; end = e }
@@ -38,9 +34,9 @@ prefix_kind CurDir = false
 prefix_kind ParentDir = false
 prefix_kind Normal = false
 
-abbrev pub is_prefix : Item → Bool
-is_prefix Missing = false
-is_prefix (Here p) = prefix_kind p.component
+abbrev pub is_prefix : Option Element → Bool
+is_prefix None = false
+is_prefix (Some p) = prefix_kind p.component
 
 -- "Left end: 0 if f = 0; the prefix's end if only the prefix was taken; else the start of the first remaining component."
 unfoldable pub left_end : List Element → ℕ → ℕ
@@ -74,5 +70,5 @@ rest_of d l f b =
     (cond (ltb (f + b) (length l)) (span (left_end l f) (right_end l b)) (span (empty_at l f) (empty_at l f)))
 
 -- the rest of a path; none where more were taken than there are
-unfoldable pub rest_asked : Seps → List ℕ → ℕ → ℕ → Remains
-rest_asked k s f b = cond (ltb (length (list_of k s)) (f + b)) TooMany (Rests (rest_of (dotted (start_of k s) s) (list_of k s) f b))
+unfoldable pub rest_asked : Seps → List ℕ → ℕ → ℕ → Option Span
+rest_asked k s f b = cond (ltb (length (list_of k s)) (f + b)) None (Some (rest_of (dotted (start_of k s) s) (list_of k s) f b))

@@ -1,5 +1,5 @@
 -- Laws of join: what it is in Unix mode, and one law a way through each function.
-use Rattle.std.specs.Prelude.{ℕ, ◌+◌, ◌-◌, ◌^◌, ◌<◌, ◌≤◌, ◌≡◌, refl, Bool, true, false, cond, List, [], ◌∷◌, ◌++◌, length, take, eqb}
+use Rattle.std.specs.Prelude.{ℕ, ◌+◌, ◌-◌, ◌^◌, ◌<◌, ◌≤◌, ◌≡◌, refl, Bool, true, false, cond, List, [], ◌∷◌, ◌++◌, length, take, eqb, Option, Some, None}
 use Rattle.std.proofs.Common.{arith, ◌∙◌, append-nil, length-take-le, eq-eqb, ne_eqb}
 use Rattle.std.proofs.Math.Nat.{sub-zero}
 use Rattle.std.proofs.Math.Path.{sym}
@@ -12,8 +12,6 @@ use Rattle.octets.specs.declared.Seps.TheVariants.{Unix, Windows, Verbatim as On
 use Rattle.answers.specs.declared.View.{View}
 use Rattle.answers.specs.Outcome.{give}
 use Rattle.answers.specs.Written.{Wrote}
-use Rattle.prefixes.specs.declared.Parsed.{Parsed}
-use Rattle.prefixes.specs.declared.Parsed.TheVariants.{Nothing, Is}
 use Rattle.prefixes.specs.Prefix.{prefix_in, has_prefix, on_disk}
 use Rattle.components.specs.declared.Start.{Start}
 use Rattle.components.specs.List.{sep_at, start_of, is_root, has_root, is_absolute}
@@ -23,6 +21,7 @@ use Rattle.seams.specs.Seam.{sep_of, wants, glued, seamed}
 use Rattle.verbatim.specs.Verbatim.{verbatim_in, verbatim_join}
 use Rattle.joins.specs.Join.{replaced, mended, mere_disk, parted, joined}
 use Rattle.joins.specs.Leaves.{replaced_by, mended_by, mere_by, parted_by, behind, kept_unix}
+use Rattle.prefixes.specs.declared.Prefix.{Prefix}
 
 -- ---- in Unix mode no path has a prefix, and join is one path set behind another
 pub joined_unix : (p q : List ℕ) → joined Unix p q ≡ seamed Unix p q
@@ -36,12 +35,12 @@ joined_unix p q =
     (λ n. rw n (split (wants Unix p) (λ w. rw w) (λ w. rw w))))))
 
 -- ---- join's tests are told by where the paths start
-bare : (x : Parsed) → has_prefix x ≡ false → x ≡ Nothing
-bare Nothing h = refl
-bare (Is x) h = absurd (false≢true (sym h))
+bare : (x : Option Prefix) → has_prefix x ≡ false → x ≡ None
+bare None h = refl
+bare (Some x) h = absurd (false≢true (sym h))
 
 -- case 1, and where it does not apply case 3
-start_root : (k : Seps) (q : List ℕ) → prefix_in k q ≡ Nothing → has_root k q ≡ is_root (start_of k q).dir
+start_root : (k : Seps) (q : List ℕ) → prefix_in k q ≡ None → has_root k q ≡ is_root (start_of k q).dir
 unfolding has_root
 start_root k q e = rw e (split (is_root (start_of k q).dir) (λ d. rw d) (λ d. rw d))
 
@@ -150,7 +149,7 @@ module _ (k : Seps) (q : List ℕ) (h : Start) (u : OpenAt k q h) (r : Bool) (f 
     join_whole y w = rw (replaced_as, y) w
 
   module _ (y : r ≡ false) (p : List ℕ) (g : Start) (o : OpenAt k p g) (m : Bool) (j : m ≡ mended_by g q) where
-    pub join_bare : m ≡ true → prefix_in Windows q ≡ Nothing
+    pub join_bare : m ≡ true → prefix_in Windows q ≡ None
     unfolding start_of
     join_bare z = bare (prefix_in Windows q) (rw (verbatim_windows k p (verbatim_start k p q g o m j z)) at (sym (start_replaced k q) ∙ replaced_as ∙ y))
 

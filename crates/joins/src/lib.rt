@@ -1,5 +1,5 @@
 // Join of two paths by a set of separators: document 01's four cases, the first that applies. Each path's start is read once.
-#![tactic(auto)]
+#![tactic(auto, using(crate::specs::Laws::joins, crate::specs::Laws::tests))]
 
 ghost use Rattle.std.specs.Prelude.{◌≡◌, ◌++◌, ◌≤◌, length, take};
 ghost use Rattle.octets.specs.Class.{limit};
@@ -17,12 +17,9 @@ use octets::Seps;
 fn replaces(k: Seps, h: Start) -> bool
     ensures { result ≡ replaced_by k h }
 {
-    let d = h.dir;
-    let p = h.prefix;
     match k {
-        Seps::Unix => components::is_root(d),
-        Seps::Windows => prefixes::has_prefix(p),
-        Seps::Verbatim => components::is_root(d),
+        Seps::Windows => prefixes::has_prefix(h.prefix),
+        Seps::Unix | Seps::Verbatim => components::is_root(h.dir),
     }
 }
 
@@ -30,11 +27,7 @@ fn replaces(k: Seps, h: Start) -> bool
 fn mends(g: Start, q: &[u8]) -> bool
     ensures { result ≡ mended_by g q.now }
 {
-    if q.len() == 0 {
-        return false;
-    }
-    let x = g.prefix;
-    verbatim::is_verbatim(x)
+    !q.is_empty() && verbatim::is_verbatim(g.prefix)
 }
 
 // Case 3: q behind p's prefix, which ends at e.
@@ -49,22 +42,14 @@ fn join_root(p: &[u8], e: usize, q: &[u8], out: &mut [u8]) -> View
 fn is_mere_drive(g: Start, p: &[u8]) -> bool
     ensures { result ≡ mere_by g p.now }
 {
-    let x = g.prefix;
-    let e = g.end;
-    if prefixes::on_disk(x) {
-        return e == p.len();
-    }
-    false
+    prefixes::on_disk(g.prefix) && g.end == p.len()
 }
 
 // Case 4: whether a separator goes between p, which starts with g, and q.
 fn parts_from(k: Seps, g: Start, p: &[u8]) -> bool
     ensures { result ≡ parted_by k g p.now }
 {
-    if is_mere_drive(g, p) {
-        return false;
-    }
-    seams::wants_sep(k, p)
+    !is_mere_drive(g, p) && seams::wants_sep(k, p)
 }
 
 // Case 4: q behind p, and a separator between the two or none.
@@ -81,9 +66,10 @@ fn kept_unix(p: &[u8], q: &[u8]) -> usize
     ensures r_in_bounds { result ≤ length p.now }
 {
     if components::sep_at(Seps::Unix, q, 0) {
-        return 0;
+        0
+    } else {
+        p.len()
     }
-    p.len()
 }
 
 // In Unix mode no path has a prefix: two bytes decide.
@@ -109,12 +95,10 @@ pub fn join_any(k: Seps, p: &[u8], q: &[u8], out: &mut [u8]) -> View
     if mends(g, q) {
         return verbatim::join(p, q, out);
     }
-    let d = h.dir;
-    if components::is_root(d) {
+    if components::is_root(h.dir) {
         return join_root(p, g.end, q, out);
     }
-    let apart = parts_from(k, g, p);
-    join_behind(k, p, apart, q, out)
+    join_behind(k, p, parts_from(k, g, p), q, out)
 }
 
 pub fn join_in(k: Seps, p: &[u8], q: &[u8], out: &mut [u8]) -> View
@@ -123,7 +107,6 @@ pub fn join_in(k: Seps, p: &[u8], q: &[u8], out: &mut [u8]) -> View
 {
     match k {
         Seps::Unix => join_unix(p, q, out),
-        Seps::Windows => join_any(k, p, q, out),
-        Seps::Verbatim => join_any(k, p, q, out),
+        Seps::Windows | Seps::Verbatim => join_any(k, p, q, out),
     }
 }

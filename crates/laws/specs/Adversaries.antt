@@ -1,5 +1,5 @@
 -- Libraries that do nothing of use, and where the promises stop each. Document 01, "How tight each promise is".
-use Rattle.std.specs.Prelude.{ℕ, ◌+◌, ◌-◌, ◌<◌, ◌≤◌, ◌≡◌, refl, List, [], ◌∷◌, length, get_or}
+use Rattle.std.specs.Prelude.{ℕ, ◌+◌, ◌-◌, ◌<◌, ◌≤◌, ◌≡◌, refl, List, [], ◌∷◌, length, get_or, Option, Some}
 use Rattle.std.proofs.Common.{arith, sym, ◌∙◌, ltb-false}
 use Rattle.std.proofs.Math.Path.{ap}
 use Rattle.std.proofs.lemmas.Bool.{eqb-false, not-true, not-false}
@@ -13,8 +13,6 @@ use Rattle.answers.specs.Outcome.{give, told, guard, in_mode, short}
 use Rattle.answers.specs.Written.{over, answered, left, Wrote}
 use Rattle.prefixes.specs.Prefix.{turned, begins, slashed, capital, drive, drive_exact, past, name_of, names_of, is_verbatim, verbatim_of, unc_of, device_of, prefix_of, parsed_figures}
 use Rattle.parts.specs.declared.Element.{Element}
-use Rattle.parts.specs.declared.Item.{Item}
-use Rattle.parts.specs.declared.Item.TheVariants.{Here}
 use Rattle.parts.specs.Body.{sort_by, rest, from}
 use Rattle.parts.specs.Elements.{nth_of, nth_back_of}
 use Rattle.parts.specs.Laws.{back_nth}
@@ -115,7 +113,7 @@ writes_nothing a b w = ap (λ (l : List ℕ). get_or l 0 0) w.leaves
 
 -- ---- a walk that does all on its first step and repeats it later
 
-step_took : (n : ℕ) (c : Cursor) (s : List ℕ) (i : Item) (d : Cursor) (a : Stepped) → a ≡ told (refused_step c) (in_mode c.mode (short s (step_asked n c i d))) → a.reply ≡ Done
+step_took : (n : ℕ) (c : Cursor) (s : List ℕ) (i : Option Element) (d : Cursor) (a : Stepped) → a ≡ told (refused_step c) (in_mode c.mode (short s (step_asked n c i d))) → a.reply ≡ Done
     → (c.front + c.back < n) × (a ≡ took_at i d)
 unfolding told step_asked
 step_took n c s i d a e y =
@@ -131,21 +129,21 @@ step_took n c s i d a e y =
 -- once is `walk_calls` of Walks.antt
 module _ (c : Cursor) (s : List ℕ) (a : Stepped) where
   pub own_element : a ≡ told (refused_step c) (next_call c s) → a.reply ≡ Done
-      → (x : Element) × (nth_of (elements c s) c.front ≡ Here x) × (a ≡ took_at (Here x) (cursor c.mode (c.front + 1) c.back))
+      → (x : Element) × (nth_of (elements c s) c.front ≡ Some x) × (a ≡ took_at (Some x) (cursor c.mode (c.front + 1) c.back))
   unfolding next_call next_in
   own_element e d =
       let t = step_took _ c s _ _ a e d in
       let h = stands (elements c s) c.front (omega (arith, t.0)) in
-      (h.element, h.is, t.1 ∙ ap (λ (i : Item). took_at i (cursor c.mode (c.front + 1) c.back)) h.is)
+      (h.element, h.is, t.1 ∙ ap (λ (i : Option Element). took_at i (cursor c.mode (c.front + 1) c.back)) h.is)
 
   pub own_element_back : a ≡ told (refused_step c) (next_back_call c s) → a.reply ≡ Done
-      → (x : Element) × (nth_back_of (elements c s) c.back ≡ Here x) × (a ≡ took_at (Here x) (cursor c.mode c.front (c.back + 1)))
+      → (x : Element) × (nth_back_of (elements c s) c.back ≡ Some x) × (a ≡ took_at (Some x) (cursor c.mode c.front (c.back + 1)))
   unfolding next_back_call next_back_in
   own_element_back e d =
       let t = step_took _ c s _ _ a e d in
       let h = stands (elements c s) (length (elements c s) - 1 - c.back) (omega (arith, t.0)) in
-      let g : nth_back_of (elements c s) c.back ≡ Here h.element = back_nth (elements c s) c.back (omega (arith, t.0)) ∙ h.is in
-      (h.element, g, t.1 ∙ ap (λ (i : Item). took_at i (cursor c.mode c.front (c.back + 1))) g)
+      let g : nth_back_of (elements c s) c.back ≡ Some h.element = back_nth (elements c s) c.back (omega (arith, t.0)) ∙ h.is in
+      (h.element, g, t.1 ∙ ap (λ (i : Option Element). took_at i (cursor c.mode c.front (c.back + 1))) g)
 
 -- ---- a made-up length: it is that of the defined result
 pub true_length : (w : List ℕ) (a : View) (before after : List ℕ) → Wrote (give w) a before after → a.reply ≡ Done → a.len ≡ length w

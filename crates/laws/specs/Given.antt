@@ -1,6 +1,6 @@
 -- When each of the 19 public calls gives each reply. Document 01, "Replies", "Given exactly when": a call's tests in the order 1, 2, 8, 4, 5, 6, 3, 7; its
 -- reply is that of the first test that holds, and Done where none does.
-use Rattle.std.specs.Prelude.{ℕ, ◌+◌, ◌≡◌, refl, List, [], ◌∷◌, Bool, true, false, cond, not, ◌↔◌, length, ltb, leb, eqb}
+use Rattle.std.specs.Prelude.{ℕ, ◌+◌, ◌≡◌, refl, List, [], ◌∷◌, Bool, true, false, cond, not, ◌↔◌, length, ltb, leb, eqb, Option, Some, None}
 use Rattle.std.proofs.Common.{arith, sym, ◌∙◌}
 use borrow.Author.Tests.{eqb-true, leb-true, leb-false, lt-ltb, le-ltb}
 use Rattle.octets.specs.Class.{is_sep, seps_of}
@@ -16,8 +16,6 @@ use Rattle.answers.specs.Outcome.{Outcome, refuse, give, told, guard, in_mode, s
 use Rattle.answers.specs.Written.{answered}
 use Rattle.prefixes.specs.Prefix.{prefix_in, has_prefix}
 use Rattle.parts.specs.declared.Element.{Element}
-use Rattle.parts.specs.declared.Item.{Item}
-use Rattle.parts.specs.declared.Item.TheVariants.{Missing, Here}
 use Rattle.parts.specs.Elements.{nth_back_of, is_here}
 use Rattle.components.specs.List.{sep_at, list_of, is_absolute}
 use Rattle.views.specs.Views.{leaves, climbs, rest_back, parent_of, ancestor_of, last_name, dot_of, on_item, of_name, whole_seen, stem_seen, extension_seen}
@@ -97,9 +95,9 @@ abbrev spent : Cursor → List ℕ → Test
 spent c s = test (eqb (c.front + c.back) (count c s)) Absent
 
 -- 3, of the file name's element: there is one, with a dot that is not its first byte
-abbrev pub pointed_at : List ℕ → Item → Bool
-pointed_at s Missing = false
-pointed_at s (Here p) = not (eqb (dot_of s p) 0)
+abbrev pub pointed_at : List ℕ → Option Element → Bool
+pointed_at s None = false
+pointed_at s (Some p) = not (eqb (dot_of s p) 0)
 
 -- 6 "of a relative path, current directory not starting with `/`"
 abbrev baseless : List ℕ → List ℕ → Test
@@ -215,11 +213,11 @@ not_not : (b : Bool) → not (not b) ≡ b
 not_not true = refl
 not_not false = refl
 
-took_done : (i : Item) (d : Cursor) → (took_at i d).reply ≡ Done
-took_done Missing d = refl
-took_done (Here x) d = refl
+took_done : (i : Option Element) (d : Cursor) → (took_at i d).reply ≡ Done
+took_done None d = refl
+took_done (Some x) d = refl
 
-step_reply_lem : (n : ℕ) (c : Cursor) (i : Item) (d : Cursor) → (told (refused_step c) (step_asked n c i d)).reply ≡ first_of (test (ltb n (c.front + c.back)) TooMany ∷ test (eqb (c.front + c.back) n) Absent ∷ [])
+step_reply_lem : (n : ℕ) (c : Cursor) (i : Option Element) (d : Cursor) → (told (refused_step c) (step_asked n c i d)).reply ≡ first_of (test (ltb n (c.front + c.back)) TooMany ∷ test (eqb (c.front + c.back) n) Absent ∷ [])
 unfolding step_asked
 step_reply_lem n c i d =
     told_test step_reply (refused_step c) (λ r. refl) _ _ TooMany _ _ refl
@@ -233,10 +231,10 @@ climb_reply n k s =
     (λ t. rw t (split (climbs (list_of k s) n) (λ c. rw c) (λ c. rw c)))
 
 -- of the file name's element, if there is one
-named_reply : (i : Item) (h : Element → Outcome View) → ((x : Element) → (told refused_view (h x)).reply ≡ Done) → (told refused_view (on_item i h)).reply ≡ first_of (absent (is_here i) ∷ [])
+named_reply : (i : Option Element) (h : Element → Outcome View) → ((x : Element) → (told refused_view (h x)).reply ≡ Done) → (told refused_view (on_item i h)).reply ≡ first_of (absent (is_here i) ∷ [])
 unfolding told first_of
-named_reply Missing h d = refl
-named_reply (Here x) h d = d x
+named_reply None h d = refl
+named_reply (Some x) h d = d x
 
 whole_done : (s : List ℕ) (x : Element) → (told refused_view (whole_seen s x)).reply ≡ Done
 unfolding told whole_seen
@@ -246,15 +244,15 @@ stem_done : (s : List ℕ) (x : Element) → (told refused_view (stem_seen s x))
 unfolding told stem_seen
 stem_done s x = refl
 
-pointed_reply : (i : Item) (s : List ℕ) → (told refused_view (on_item i (extension_seen s))).reply ≡ first_of (absent (pointed_at s i) ∷ [])
+pointed_reply : (i : Option Element) (s : List ℕ) → (told refused_view (on_item i (extension_seen s))).reply ≡ first_of (absent (pointed_at s i) ∷ [])
 unfolding told first_of extension_seen
-pointed_reply Missing s = refl
-pointed_reply (Here x) s = told_present view_reply refused_view (λ r. refl) _ _ _ refl refl
+pointed_reply None s = refl
+pointed_reply (Some x) s = told_present view_reply refused_view (λ r. refl) _ _ _ refl refl
 
-stem_reply : (n : ℕ) (i : Item) (s : List ℕ) (g : View → List ℕ) → (answered n (on_view (on_item i (stem_seen s)) g)).reply ≡ first_of (absent (is_here i) ∷ room n (made (on_view (on_item i (stem_seen s)) g)) ∷ [])
+stem_reply : (n : ℕ) (i : Option Element) (s : List ℕ) (g : View → List ℕ) → (answered n (on_view (on_item i (stem_seen s)) g)).reply ≡ first_of (absent (is_here i) ∷ room n (made (on_view (on_item i (stem_seen s)) g)) ∷ [])
 unfolding answered first_of stem_seen
-stem_reply n Missing s g = refl
-stem_reply n (Here x) s g = wrote_room n (g (seen x.start (cond (eqb (dot_of s x) 0) x.len (dot_of s x))))
+stem_reply n None s g = refl
+stem_reply n (Some x) s g = wrote_room n (g (seen x.start (cond (eqb (dot_of s x) 0) x.len (dot_of s x))))
 
 extended_reply : (n : ℕ) (k : Seps) (p e : List ℕ) → (answered n (extended k p e)).reply ≡ first_of (test (holds (is_sep k) e) Name ∷ absent (is_here (last_name k p)) ∷ room n (made (extended k p e)) ∷ [])
 unfolding extended of_name answered guard first_of

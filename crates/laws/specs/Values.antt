@@ -7,7 +7,7 @@ use native.Mathlib.Omega.{arith}
 use Rattle.std.proofs.Math.Numerals.{add-one}
 use Rattle.std.proofs.Math.Path.{◌≡◌, refl, sym}
 use mathlib.Core.List.{List, [], ◌∷◌, ◌++◌, append-nil, append_assoc}
-use Rattle.std.specs.Prelude.{Bool, true, false, cond, length, get_or, take, eqb, ltb}
+use Rattle.std.specs.Prelude.{Bool, true, false, cond, length, get_or, take, eqb, ltb, Option, Some, None}
 use Rattle.std.proofs.lemmas.Bool.{false≢true}
 use Rattle.std.proofs.Math.ListN.{drop, length-drop}
 use Rattle.std.proofs.Math.Seq.{take-nil, drop-drop, drop-append-add, get_or-drop, split_at}
@@ -17,12 +17,8 @@ use Rattle.octets.specs.Laws.{split}
 use Rattle.octets.specs.Segment.{lead, end_of}
 use Rattle.octets.specs.declared.Seps.{Seps}
 use Rattle.octets.specs.declared.Seps.TheVariants.{Unix}
-use Rattle.prefixes.specs.declared.Parsed.TheVariants.{Nothing}
 use Rattle.parts.specs.declared.Element.{Element}
-use Rattle.parts.specs.declared.Item.TheVariants.{Here}
 use Rattle.parts.specs.declared.Kind.TheVariants.{Dot as LoneDot, DotDot, Name}
-use Rattle.parts.specs.declared.Sort.{Sort}
-use Rattle.parts.specs.declared.Sort.TheVariants.{Skip, Is}
 use Rattle.parts.specs.Body.{sort_by, sort_of, sort_at, put, rest, body, from}
 use Rattle.parts.specs.Elements.{nth_of, nth_back_of, start_or, end_or, bytes_at}
 use Rattle.parts.specs.Laws.{seam, step, from_end, nth_behind, back_nth, back_behind, from_good, good_nth}
@@ -36,15 +32,16 @@ use Rattle.order.specs.Leaves.{dir_rank, dir_values}
 use Rattle.order.proofs.HeadLaws.{values_append, dir_values_lem}
 use Rattle.matches.specs.Laws.{plain_first}
 use Rattle.laws.specs.Walks.{stands}
+use Rattle.parts.specs.declared.Kind.{Kind}
 
 -- ---- a body's values, by its bytes
 
 -- the value of the segment w, before the values l
-abbrev pub lay : Sort → List ℕ → List Value → List Value
-lay Skip w l = l
-lay (Is LoneDot) w l = valued 3 [] ∷ l
-lay (Is DotDot) w l = valued 4 [] ∷ l
-lay (Is Name) w l = valued 5 w ∷ l
+abbrev pub lay : Option Kind → List ℕ → List Value → List Value
+lay None w l = l
+lay (Some LoneDot) w l = valued 3 [] ∷ l
+lay (Some DotDot) w l = valued 4 [] ∷ l
+lay (Some Name) w l = valued 5 w ∷ l
 
 -- the values of the segments of xs behind its first separator, and of all its segments
 unfoldable pub later : (ℕ → Bool) → Bool → List ℕ → List Value
@@ -62,12 +59,12 @@ module _ (sep : ℕ → Bool) (v : Bool) where
 
   -- xs stands in s from place i on
   module _ (s : List ℕ) where
-    put_values : (i : ℕ) (xs z : List ℕ) (l : List Element) (m : List Value) → drop i s ≡ xs ++ z → values_in s l ≡ m → (q : Sort) → values_in s (put q i (length (lead sep xs)) l) ≡ lay q (lead sep xs) m
+    put_values : (i : ℕ) (xs z : List ℕ) (l : List Element) (m : List Value) → drop i s ≡ xs ++ z → values_in s l ≡ m → (q : Option Kind) → values_in s (put q i (length (lead sep xs)) l) ≡ lay q (lead sep xs) m
     unfolding values_in
-    put_values i xs z l m e h Skip = h
-    put_values i xs z l m e h (Is LoneDot) = rw h
-    put_values i xs z l m e h (Is DotDot) = rw h
-    put_values i xs z l m e h (Is Name) = rw (e, lead_front xs z, h)
+    put_values i xs z l m e h None = h
+    put_values i xs z l m e h (Some LoneDot) = rw h
+    put_values i xs z l m e h (Some DotDot) = rw h
+    put_values i xs z l m e h (Some Name) = rw (e, lead_front xs z, h)
 
     rest_values : (i : ℕ) (xs z : List ℕ) → drop i s ≡ xs ++ z → values_in s (rest sep v i xs) ≡ later sep v xs
     unfolding rest later values_in
@@ -110,21 +107,21 @@ abbrev pub dir_by : Bool → Bool → Dir
 dir_by root dot = cond root Root (cond dot Dot Bare)
 
 module _ (k : Seps) where
-  pub ahead_none : dir_of k Nothing [] 0 ≡ Bare
+  pub ahead_none : dir_of k None [] 0 ≡ Bare
   unfolding dir_of sep_at dot_at
   ahead_none = refl
 
-  pub ahead_one : (x : ℕ) → dir_of k Nothing (x ∷ []) 0 ≡ dir_by (is_sep k x) (eqb x 46)
+  pub ahead_one : (x : ℕ) → dir_of k None (x ∷ []) 0 ≡ dir_by (is_sep k x) (eqb x 46)
   unfolding dir_of sep_at dot_at
   ahead_one x = split (is_sep k x) (λ e. rw e) (λ e. rw e (split (eqb x 46) (λ f. rw f) (λ f. rw f)))
 
-  pub ahead_two : (x y : ℕ) (s : List ℕ) → dir_of k Nothing (x ∷ y ∷ s) 0 ≡ dir_by (is_sep k x) (cond (eqb x 46) (is_sep k y) false)
+  pub ahead_two : (x y : ℕ) (s : List ℕ) → dir_of k None (x ∷ y ∷ s) 0 ≡ dir_by (is_sep k x) (cond (eqb x 46) (is_sep k y) false)
   unfolding dir_of sep_at dot_at
   ahead_two x y s =
       rw (lt-ltb 0 (suc (suc (length s))) (omega arith), lt-ltb 1 (suc (suc (length s))) (omega arith), ne_eqb 1 (suc (suc (length s))) (λ z. omega arith))
 
   -- a separator behind a path that is not empty does not change it
-  pub ahead_seam : (u : List ℕ) (y : ℕ) (w : List ℕ) → (length u ≡ 0 → ⊥) → is_sep k y ≡ true → dir_of k Nothing (u ++ y ∷ w) 0 ≡ dir_of k Nothing u 0
+  pub ahead_seam : (u : List ℕ) (y : ℕ) (w : List ℕ) → (length u ≡ 0 → ⊥) → is_sep k y ≡ true → dir_of k None (u ++ y ∷ w) 0 ≡ dir_of k None u 0
   ahead_seam [] y w h e = absurd (h refl)
   ahead_seam (x ∷ []) y w h e = ahead_two x y w ∙ rw e (split (eqb x 46) (λ f. rw f) (λ f. rw f)) ∙ sym (ahead_one x)
   ahead_seam (x ∷ z ∷ u) y w h e = ahead_two x z (u ++ y ∷ w) ∙ sym (ahead_two x z u)
@@ -132,7 +129,7 @@ module _ (k : Seps) where
 -- ---- a Unix path: what stands ahead of its body, its elements from place i on, and the values of its segments
 
 abbrev pub top_of : List ℕ → Dir
-top_of s = dir_of Unix Nothing s 0
+top_of s = dir_of Unix None s 0
 
 abbrev pub body_of : List ℕ → ℕ → List Element
 body_of s i = from (is_sep Unix) false s i
@@ -231,10 +228,10 @@ module _ (sep : ℕ → Bool) where
   end_edge s i h = rw (← get_or-drop i s (length (lead sep (drop i s))) 0) (lead_edge (drop i s) (omega (arith, length-drop i s)))
 
   module _ (v : Bool) (s : List ℕ) where
-    put_cuts : (lo i e : ℕ) → lo ≤ i → i ≤ e → e ≡ end_of sep s i → Cuts sep v s lo (from sep v s (e + 1)) → (q : Sort) → sort_at v s i e ≡ q → Cuts sep v s lo (put q i (e - i) (from sep v s (e + 1)))
+    put_cuts : (lo i e : ℕ) → lo ≤ i → i ≤ e → e ≡ end_of sep s i → Cuts sep v s lo (from sep v s (e + 1)) → (q : Option Kind) → sort_at v s i e ≡ q → Cuts sep v s lo (put q i (e - i) (from sep v s (e + 1)))
     unfolding Cuts
-    put_cuts lo i e h k d u Skip f = u
-    put_cuts lo i e h k d u (Is q) f =
+    put_cuts lo i e h k d u None f = u
+    put_cuts lo i e h k d u (Some q) f =
         let n : i + (e - i) ≡ e = omega arith in
         (record { low = h; here = sym (step sep v s i ∙ rw (← d, f)); next = rw n; edge = rw (n, d) (end_edge s i) }, u)
 
@@ -248,7 +245,7 @@ module _ (sep : ℕ → Bool) where
     cuts : (i : ℕ) → Cuts sep v s i (from sep v s i)
     cuts i = cuts_by (length s) i i (omega arith) (omega arith)
 
-    cut_nth : (lo : ℕ) (l : List Element) (f : ℕ) (p : Element) → Cuts sep v s lo l → nth_of l f ≡ Here p → Cut sep v s lo p (drop (suc f) l)
+    cut_nth : (lo : ℕ) (l : List Element) (f : ℕ) (p : Element) → Cuts sep v s lo l → nth_of l f ≡ Some p → Cut sep v s lo p (drop (suc f) l)
     unfolding Cuts nth_of
     cut_nth lo [] f p u e = let z : ◌≡◌ {A = ℕ} 0 1 = cc in absurd (omega arith)
     cut_nth lo (x ∷ l) zero p u e = let z : x ≡ p = cc in rw z at u.0
@@ -259,7 +256,7 @@ module _ (sep : ℕ → Bool) where
         let m : List Element = from sep v s i in
         let t = stands m (length m - 1) (omega arith) in
         let z : length m - 1 - 0 ≡ length m - 1 = omega arith in
-        let g : nth_back_of m 0 ≡ Here t.element = back_nth m 0 h ∙ rw z t.is in
+        let g : nth_back_of m 0 ≡ Some t.element = back_nth m 0 h ∙ rw z t.is in
         let c = cut_nth i m (length m - 1) t.element (cuts i) t.is in
         let w = good_nth sep v s m (length m - 1) t.element (from_good sep v s i) t.is in
         let d : drop (suc (length m - 1)) m ≡ [] = drop_of_length-le m {i = suc (length m - 1)} (omega arith) in

@@ -3,7 +3,7 @@
 use Prim.Native.Nat.{ℕ, zero, suc, ◌+◌, ◌-◌, ◌<◌, ◌≤◌}
 use native.Mathlib.Omega.{arith}
 use Rattle.std.proofs.Common.{add-one, sym, ap, ◌∙◌, take-append-drop, le-ltb}
-use Rattle.std.specs.Prelude.{◌≡◌, ltb, eqb}
+use Rattle.std.specs.Prelude.{◌≡◌, ltb, eqb, Option, Some, None}
 use Rattle.std.proofs.Math.Path.{refl}
 use mathlib.Core.List.{List, [], ◌∷◌, ◌++◌, append_assoc, append-nil}
 use Rattle.std.proofs.Math.ListN.{length, take, drop}
@@ -13,27 +13,24 @@ use Rattle.octets.specs.Laws.{split}
 use Rattle.answers.specs.declared.Reply.TheVariants.{Mode, Length}
 use Rattle.answers.specs.Laws.{goes}
 use Rattle.parts.specs.declared.Element.{Element}
-use Rattle.parts.specs.declared.Item.{Item}
-use Rattle.parts.specs.declared.Item.TheVariants.{Missing, Here}
 use Rattle.parts.specs.Elements.{nth_of, nth_back_of}
 use Rattle.parts.specs.Laws.{back_nth}
 use Rattle.answers.specs.Outcome.{told, guard}
 use Rattle.components.specs.List.{list_of}
 use Rattle.paths.specs.declared.steps.Cursor.{Cursor}
-use Rattle.paths.specs.declared.steps.Taken.{Taken}
-use Rattle.paths.specs.declared.steps.Taken.TheVariants.{Nothing, Is}
 use Rattle.paths.specs.declared.steps.Stepped.{Stepped}
 use Rattle.paths.specs.Steps.{refused_step, took_at, step_asked, next_in, next_back_in, next_call, next_back_call}
 use Rattle.paths.specs.StepLaws.{next_took, next_back_took}
+use Rattle.parts.specs.declared.Component.{Component}
 
 pub data Way : Type 0 where
   front : Way
   back : Way
 
 -- the element that an answer shows, in front of others; nothing where it shows none
-abbrev shown : Taken → ℕ → ℕ → List Element → List Element
-shown Nothing i n l = l
-shown (Is c) i n l = record { component = c; start = i; len = n } ∷ l
+abbrev shown : Option Component → ℕ → ℕ → List Element → List Element
+shown None i n l = l
+shown (Some c) i n l = record { component = c; start = i; len = n } ∷ l
 
 abbrev with_taken : Stepped → List Element → List Element
 with_taken a l = shown a.component a.start a.len l
@@ -59,7 +56,7 @@ backs x y c (back ∷ w) = backs x y (y c).cursor w ++ with_taken (y c) []
 -- an element, by its number: what stands before it, and what behind
 pub record Stands (l : List Element) (f : ℕ) : Type 0 where
   pub element : Element
-  pub is : nth_of l f ≡ Here element
+  pub is : nth_of l f ≡ Some element
   pub before : take (suc f) l ≡ take f l ++ (element ∷ [])
   pub behind : drop f l ≡ element ∷ drop (suc f) l
 
@@ -92,7 +89,7 @@ module _ (l : List Element) (m : ℕ) where
       rw (append-nil, d) (take-append-drop f l)
   between (front ∷ w) f b e =
       let t = stands l f (omega arith) in
-      let a : front_answer l (cursor m f b) ≡ took_at (Here t.element) (cursor m (f + 1) b) = next_took l (cursor m f b) (omega arith) ∙ rw t.is in
+      let a : front_answer l (cursor m f b) ≡ took_at (Some t.element) (cursor m (f + 1) b) = next_took l (cursor m f b) (omega arith) ∙ rw t.is in
       let q : take (f + 1) l ≡ take f l ++ (t.element ∷ []) = rw (add-one f) t.before in
       let c : Cursor = cursor m (f + 1) b in
       let i : take (f + 1) l ++ (fronts (front_answer l) (back_answer l) c w ++ backs (front_answer l) (back_answer l) c w) ++ drop (length l - b) l ≡ l = between w (f + 1) b (omega arith) in
@@ -102,8 +99,8 @@ module _ (l : List Element) (m : ℕ) where
       let t = stands l (length l - 1 - b) n in
       let j : length l - (b + 1) ≡ length l - 1 - b = omega arith in
       let k : suc (length l - 1 - b) ≡ length l - b = omega arith in
-      let g : nth_back_of l b ≡ Here t.element = back_nth l b (omega arith) ∙ t.is in
-      let a : back_answer l (cursor m f b) ≡ took_at (Here t.element) (cursor m f (b + 1)) = next_back_took l (cursor m f b) (omega arith) ∙ rw g in
+      let g : nth_back_of l b ≡ Some t.element = back_nth l b (omega arith) ∙ t.is in
+      let a : back_answer l (cursor m f b) ≡ took_at (Some t.element) (cursor m f (b + 1)) = next_back_took l (cursor m f b) (omega arith) ∙ rw g in
       let q : drop (length l - (b + 1)) l ≡ t.element ∷ drop (length l - b) l = rw (j, ← k) t.behind in
       let c : Cursor = cursor m f (b + 1) in
       let i : take f l ++ (fronts (front_answer l) (back_answer l) c w ++ backs (front_answer l) (back_answer l) c w) ++ drop (length l - (b + 1)) l ≡ l = between w f (b + 1) (omega arith) in
@@ -126,11 +123,11 @@ abbrev pub next_back_answer : List ℕ → Cursor → Stepped
 next_back_answer s c = told (refused_step c) (next_back_call c s)
 
 -- a step keeps the cursor's mode
-took_mode : (i : Item) (d : Cursor) → (took_at i d).cursor.mode ≡ d.mode
-took_mode Missing d = refl
-took_mode (Here x) d = refl
+took_mode : (i : Option Element) (d : Cursor) → (took_at i d).cursor.mode ≡ d.mode
+took_mode None d = refl
+took_mode (Some x) d = refl
 
-step_mode : (n : ℕ) (c : Cursor) (i : Item) (d : Cursor) → d.mode ≡ c.mode → (told (refused_step c) (step_asked n c i d)).cursor.mode ≡ c.mode
+step_mode : (n : ℕ) (c : Cursor) (i : Option Element) (d : Cursor) → d.mode ≡ c.mode → (told (refused_step c) (step_asked n c i d)).cursor.mode ≡ c.mode
 unfolding step_asked told guard
 step_mode n c i d e =
     split (ltb n (c.front + c.back))

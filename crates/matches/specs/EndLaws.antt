@@ -1,5 +1,5 @@
 -- Laws of the end: one a way through each function of the walk from the back, and what they rest on.
-use Rattle.std.specs.Prelude.{ℕ, ◌+◌, ◌<◌, ◌≤◌, ◌≡◌, Bool, true, false, cond, not, length, eqb, ltb}
+use Rattle.std.specs.Prelude.{ℕ, ◌+◌, ◌<◌, ◌≤◌, ◌≡◌, Bool, true, false, cond, length, eqb, ltb, Option, Some, None, is_none}
 use Rattle.std.proofs.Common.{arith, sym, ap, ◌∙◌, ne_eqb, eqb-true, ltb-true, ltb-false}
 use Rattle.std.proofs.Math.Path.{refl}
 use mathlib.Core.List.{List, [], ◌∷◌, ◌++◌, reverse, reverse-append, reverse-cons, append-nil, append_assoc}
@@ -10,15 +10,11 @@ use Rattle.octets.specs.Laws.{split}
 use Rattle.octets.specs.declared.Seps.{Seps}
 use Rattle.prefixes.specs.declared.Figures.{Figures}
 use Rattle.prefixes.specs.declared.Prefix.{Prefix}
-use Rattle.prefixes.specs.declared.Parsed.{Parsed}
-use Rattle.prefixes.specs.declared.Parsed.TheVariants.{Nothing as Without, Is}
-use Rattle.prefixes.specs.Prefix.{figures_of, parsed_figures, has_prefix}
+use Rattle.prefixes.specs.Prefix.{figures_of, parsed_figures}
 use Rattle.parts.specs.declared.Element.{Element}
 use Rattle.parts.specs.declared.Kind.{Kind}
 use Rattle.parts.specs.declared.Kind.TheVariants.{Dot as LoneDot, DotDot, Name}
 use Rattle.parts.specs.declared.Part.{Part}
-use Rattle.parts.specs.declared.Piece.{Piece}
-use Rattle.parts.specs.declared.Piece.TheVariants.{Nothing, Found}
 use Rattle.parts.specs.Body.{component_of, dots}
 use Rattle.parts.specs.Steps.{lift, within, LastAt}
 use Rattle.parts.specs.Laws.{last_none, last_found}
@@ -26,7 +22,8 @@ use Rattle.components.specs.declared.Dir.{Dir}
 use Rattle.components.specs.declared.Dir.TheVariants.{Bare, Root, Implied, Dot}
 use Rattle.components.specs.declared.Start.{Start}
 use Rattle.components.specs.Leaves.{OpenAt}
-use Rattle.order.specs.declared.Ordering.{Ordering}
+use Rattle.std.specs.declared.cmp.Ordering.{Ordering}
+use Rattle.std.specs.declared.cmp.Ordering.TheVariants.{Equal}
 use Rattle.order.specs.Values.{Value, valued, prefix_value, value_of, values_in, values_of}
 use Rattle.order.specs.Order.{cmp_value}
 use Rattle.order.proofs.Ordered.{itself, value_ordered}
@@ -35,7 +32,7 @@ use Rattle.order.proofs.HeadLaws.{values_append, values_whole, open_kind, dot_al
 use Rattle.order.specs.Leaves.{prefix_values}
 use Rattle.order.proofs.Laws.{names_here}
 use Rattle.matches.specs.Match.{is_equal, same, starts_with, ends_with, ends_of}
-use Rattle.matches.specs.Laws.{bad, by_prefix}
+use Rattle.matches.specs.Laws.{bad, by_prefix, unequal}
 use Rattle.matches.specs.Leaves.{is_dot, Begun, same_prefix, front_of, Ahead}
 
 -- ---- from the back
@@ -93,25 +90,25 @@ unfolding dir_values
 dirs_none c e = rw e
 
 -- a head, and one more value that is of another kind than its last
-head_apart : (s : List ℕ) (p : Parsed) (d : Dir) (m : List Value) (v : Value) → (dir_rank d ≡ v.kind → ⊥) → 1 < v.kind → ends_with (prefix_values s p ++ dir_values (dir_rank d)) (m ++ (v ∷ [])) ≡ false
+head_apart : (s : List ℕ) (p : Option Prefix) (d : Dir) (m : List Value) (v : Value) → (dir_rank d ≡ v.kind → ⊥) → 1 < v.kind → ends_with (prefix_values s p ++ dir_values (dir_rank d)) (m ++ (v ∷ [])) ≡ false
 head_apart s p d m v n h =
     split (eqb (dir_rank d) 0)
     (λ x. rw (dirs_none (dir_rank d) (eqb-true (dir_rank d) 0 x)) (go p))
     (λ x. rw (dirs_some (dir_rank d) (eqb-false (dir_rank d) 0 x)) (ends_apart (prefix_values s p) m (valued (dir_rank d) []) v n))
   where
-    go : (p : Parsed) → ends_with (prefix_values s p ++ []) (m ++ (v ∷ [])) ≡ false
-    go Without = ends_lone m v
-    go (Is q) = ends_apart [] m (prefix_value s (figures_of q)) v (λ e. absurd (omega (arith, e)))
+    go : (p : Option Prefix) → ends_with (prefix_values s p ++ []) (m ++ (v ∷ [])) ≡ false
+    go None = ends_lone m v
+    go (Some q) = ends_apart [] m (prefix_value s (figures_of q)) v (λ e. absurd (omega (arith, e)))
 
 -- `same_prefix`
-module _ (s t : List ℕ) (p q : Parsed) (x : Prefix) (f : p ≡ Is x) (a b : Figures) (g : a ≡ parsed_figures p) (h : b ≡ parsed_figures q) (o : Ordering) (e : o ≡ cmp_value (prefix_value s a) (prefix_value t b)) where
+module _ (s t : List ℕ) (p q : Option Prefix) (x : Prefix) (f : p ≡ Some x) (a b : Figures) (g : a ≡ parsed_figures p) (h : b ≡ parsed_figures q) (o : Ordering) (e : o ≡ cmp_value (prefix_value s a) (prefix_value t b)) where
   pub prefix_same : (r : Bool) → r ≡ is_equal o → r ≡ same_prefix s t p q
   prefix_same r z = z ∙ sym (rw f (sym (ap is_equal e ∙ rw (g, h, f))))
 
 -- `ends_heads`
-prefixes_end : (s t : List ℕ) (p : Parsed) (q : Prefix) → ends_with (prefix_values s p) (prefix_value t (figures_of q) ∷ []) ≡ same_prefix s t p (Is q)
-prefixes_end s t Without q = ends_lone [] (prefix_value t (figures_of q))
-prefixes_end s t (Is p) q =
+prefixes_end : (s t : List ℕ) (p : Option Prefix) (q : Prefix) → ends_with (prefix_values s p) (prefix_value t (figures_of q) ∷ []) ≡ same_prefix s t p (Some q)
+prefixes_end s t None q = ends_lone [] (prefix_value t (figures_of q))
+prefixes_end s t (Some p) q =
     ends_snoc [] [] (prefix_value s (figures_of p)) (prefix_value t (figures_of q))
     ∙ rw (ends_nil []) (go (same (prefix_value s (figures_of p)) (prefix_value t (figures_of q))))
   where
@@ -139,7 +136,7 @@ module _ (s : List ℕ) (g : Start) (t : List ℕ) (h : Start) (c e : ℕ) (x : 
       rw (head_values_lem s g, head_values_lem t h, dirs_some (dir_rank h.dir) (λ w. z (y ∙ w)))
       (head_apart s g.prefix g.dir (prefix_values t h.prefix) (valued (dir_rank h.dir) []) (λ w. n (x ∙ w ∙ sym y)) (rank_step h.dir (λ w. z (y ∙ w))).0)
 
-  module _ (q : h.prefix ≡ Without) where
+  module _ (q : h.prefix ≡ None) where
     pub ends_empty : e ≡ 0 → true ≡ heads_end
     ends_empty z = sym (parted ∙ rw (q, dirs_none e z) (ends_nil _))
 
@@ -149,7 +146,7 @@ module _ (s : List ℕ) (g : Start) (t : List ℕ) (h : Start) (c e : ℕ) (x : 
         (λ w. rw w (sym (parted ∙ rw (q, eqb-true c e w) (dirs_off (prefix_values s g.prefix) [] e ∙ ends_nil (prefix_values s g.prefix)))))
         (λ w. rw w (sym (dirs_apart (eqb-false c e w) z)))
 
-  module _ (q : Prefix) (z : h.prefix ≡ Is q) where
+  module _ (q : Prefix) (z : h.prefix ≡ Some q) where
     pub ends_prefix : (r : Bool) → c ≡ e → r ≡ same_prefix s t g.prefix h.prefix → r ≡ heads_end
     ends_prefix r w f = f ∙ sym (parted ∙ rw (w, z) (dirs_off (prefix_values s g.prefix) (prefix_value t (figures_of q) ∷ []) e ∙ prefixes_end s t g.prefix q))
 
@@ -169,12 +166,12 @@ values_one : (s : List ℕ) (e : Element) → values_in s (e ∷ []) ≡ value_o
 unfolding values_in
 values_one s e = refl
 
-module _ (s : List ℕ) (g : Start) (x : ℕ) (p : Piece) (f : LastAt (is_sep g.seps) (dots g.seps) s g.at x p) where
-  front_none : p ≡ Nothing → front_of s g x ≡ head_values s g
+module _ (s : List ℕ) (g : Start) (x : ℕ) (p : Option Part) (f : LastAt (is_sep g.seps) (dots g.seps) s g.at x p) where
+  front_none : p ≡ None → front_of s g x ≡ head_values s g
   unfolding front_of values_in
   front_none n = rw (last_none f n) (append-nil (head_values s g))
 
-  front_found : (z : Part) → p ≡ Found z → front_of s g x ≡ front_of s g z.start ++ (value_of s (lift z) ∷ [])
+  front_found : (z : Part) → p ≡ Some z → front_of s g x ≡ front_of s g z.start ++ (value_of s (lift z) ∷ [])
   unfolding front_of
   front_found z n =
       rw ((last_found f n).is, values_append s (within (is_sep g.seps) (dots g.seps) s g.at z.start) (lift z ∷ []), values_one s (lift z))
@@ -197,14 +194,14 @@ dot_same s z = go z.kind
     go Name = kinds_apart _ (valued 3 []) (λ e. absurd (omega (arith, e)))
 
 -- `ends_head`
-module _ (s : List ℕ) (g : Start) (x : ℕ) (t : List ℕ) (h : Start) (b : Begun t h) (p : Piece) (f : LastAt (is_sep g.seps) (dots g.seps) s g.at x p) where
+module _ (s : List ℕ) (g : Start) (x : ℕ) (t : List ℕ) (h : Start) (b : Begun t h) (p : Option Part) (f : LastAt (is_sep g.seps) (dots g.seps) s g.at x p) where
   abbrev front_end : Bool
   front_end = ends_with (front_of s g x) (head_values t h)
 
-  pub end_heads : (r : Bool) → p ≡ Nothing → r ≡ ends_with (head_values s g) (head_values t h) → r ≡ front_end
+  pub end_heads : (r : Bool) → p ≡ None → r ≡ ends_with (head_values s g) (head_values t h) → r ≡ front_end
   end_heads r n e = e ∙ rw (front_none s g x p f n)
 
-  module _ (a : Part) (n : p ≡ Found a) (e : ℕ) (y : e ≡ dir_rank h.dir) where
+  module _ (a : Part) (n : p ≡ Some a) (e : ℕ) (y : e ≡ dir_rank h.dir) where
     -- a part against a value of another kind
     part_apart : (m : List Value) (v : Value) → head_values t h ≡ m ++ (v ∷ []) → v.kind ≤ 3 → (v.kind ≡ 3 → ⊥) → front_end ≡ false
     part_apart m v w i j =
@@ -220,11 +217,11 @@ module _ (s : List ℕ) (g : Start) (x : ℕ) (t : List ℕ) (h : Start) (b : Be
         go true = refl
         go false = refl
 
-    pub end_bare : (r : Bool) → e ≡ 0 → r ≡ has_prefix h.prefix → not r ≡ front_end
+    pub end_bare : (r : Bool) → e ≡ 0 → r ≡ is_none h.prefix → r ≡ front_end
     end_bare r z w =
         by_prefix h.prefix
-        (λ u. ap not (w ∙ ap has_prefix u) ∙ sym (rw (head_values_lem t h, u, dirs_none (dir_rank h.dir) (sym y ∙ z)) (ends_nil (front_of s g x))))
-        (λ q u. ap not (w ∙ ap has_prefix u) ∙ sym (part_apart [] (prefix_value t (figures_of q)) (head_values_lem t h ∙ rw (u, dirs_none (dir_rank h.dir) (sym y ∙ z))) (omega arith) (λ i. absurd (omega (arith, i)))))
+        (λ u. w ∙ ap is_none u ∙ sym (rw (head_values_lem t h, u, dirs_none (dir_rank h.dir) (sym y ∙ z)) (ends_nil (front_of s g x))))
+        (λ q u. w ∙ ap is_none u ∙ sym (part_apart [] (prefix_value t (figures_of q)) (head_values_lem t h ∙ rw (u, dirs_none (dir_rank h.dir) (sym y ∙ z))) (omega arith) (λ i. absurd (omega (arith, i)))))
 
     pub end_root : (e ≡ 3 → ⊥) → (e ≡ 0 → ⊥) → false ≡ front_end
     end_root i j =
@@ -275,23 +272,23 @@ module _ (t : List ℕ) (h : Start) (b : Begun t h) where
       go (u ∷ l) f = rw (f, ends_none u l) (split (same (valued 3 []) v) (λ j. rw j) (λ j. rw j))
 
 -- `walk_back`: e says what the loop has kept, q and p are the next pieces
-module _ (s : List ℕ) (g : Start) (t : List ℕ) (h : Start) (x y : ℕ) (r : Bool) (e : r ≡ ends_with (front_of s g x) (front_of t h y)) (q : Piece) (f : LastAt (is_sep h.seps) (dots h.seps) t h.at y q) where
-  pub back_head : (c : Bool) → q ≡ Nothing → c ≡ ends_with (front_of s g x) (head_values t h) → c ≡ r
+module _ (s : List ℕ) (g : Start) (t : List ℕ) (h : Start) (x y : ℕ) (r : Bool) (e : r ≡ ends_with (front_of s g x) (front_of t h y)) (q : Option Part) (f : LastAt (is_sep h.seps) (dots h.seps) t h.at y q) where
+  pub back_head : (c : Bool) → q ≡ None → c ≡ ends_with (front_of s g x) (head_values t h) → c ≡ r
   back_head c n z = z ∙ sym (e ∙ rw (front_none t h y q f n))
 
-  module _ (b : Part) (n : q ≡ Found b) (p : Piece) (k : LastAt (is_sep g.seps) (dots g.seps) s g.at x p) where
-    module _ (a : Part) (m : p ≡ Found a) (o : Ordering) (c : o ≡ cmp_value (value_of s (lift a)) (value_of t (lift b))) (d : Bool) (w : d ≡ is_equal o) where
-      back_by : r ≡ cond d (ends_with (front_of s g a.start) (front_of t h b.start)) false
-      back_by = e ∙ rw (front_found s g x p k a m, front_found t h y q f b n) (ends_snoc (front_of s g a.start) (front_of t h b.start) (value_of s (lift a)) (value_of t (lift b)) ∙ rw (w, c))
+  module _ (b : Part) (n : q ≡ Some b) (p : Option Part) (k : LastAt (is_sep g.seps) (dots g.seps) s g.at x p) where
+    module _ (a : Part) (m : p ≡ Some a) (o : Ordering) (c : o ≡ cmp_value (value_of s (lift a)) (value_of t (lift b))) where
+      back_by : r ≡ cond (is_equal o) (ends_with (front_of s g a.start) (front_of t h b.start)) false
+      back_by = e ∙ rw (front_found s g x p k a m, front_found t h y q f b n) (ends_snoc (front_of s g a.start) (front_of t h b.start) (value_of s (lift a)) (value_of t (lift b)) ∙ rw c)
 
-      pub back_on : d ≡ true → r ≡ ends_with (front_of s g a.start) (front_of t h b.start)
+      pub back_on : o ≡ Equal → r ≡ ends_with (front_of s g a.start) (front_of t h b.start)
       back_on z = back_by ∙ rw z
 
-      pub back_off : d ≡ false → false ≡ r
-      back_off z = sym (back_by ∙ rw z)
+      pub back_off : (o ≡ Equal → ⊥) → false ≡ r
+      back_off z = sym (back_by ∙ rw (unequal o z))
 
     -- the first body is used up
-    pub back_short : Begun s g → Begun t h → Ahead t h y → p ≡ Nothing → false ≡ r
+    pub back_short : Begun s g → Begun t h → Ahead t h y → p ≡ None → false ≡ r
     back_short i j w m =
         let v = value_of t (lift b) in
         sym (e ∙ rw (front_none s g x p k m, front_found t h y q f b n, head_values_lem s g)
@@ -303,14 +300,14 @@ module _ (s : List ℕ) (g : Start) (t : List ℕ) (h : Start) (x y : ℕ) (r : 
         rw (i.alone d, l, dirs_some 3 (λ (a : ◌≡◌ {A = ℕ} 3 0). absurd (omega (arith, a)))) (dot_short t h j y b.start (value_of t (lift b)) w (front_found t h y q f b n) (sym u ∙ l)))
         (λ z. head_apart s g.prefix g.dir (front_of t h b.start) (value_of t (lift b)) (eqb-false (dir_rank g.dir) (value_of t (lift b)).kind z) (omega (arith, part_kind t b)))))
 
-  pub ahead_on : (b : Part) → q ≡ Found b → Ahead t h y → Ahead t h b.start
+  pub ahead_on : (b : Part) → q ≡ Some b → Ahead t h y → Ahead t h b.start
   ahead_on b n w = record { rest = value_of t (lift b) ∷ w.rest; is = w.is ∙ rw (front_found t h y q f b n) (append_assoc (front_of t h b.start) (value_of t (lift b) ∷ []) w.rest) }
 
 pub ahead_start : (t : List ℕ) (h : Start) → Ahead t h (length t)
 ahead_start t h = record { rest = []; is = sym (append-nil (front_of t h (length t))) }
 
 -- a part that `last` found lies in the path
-pub part_inside : (sep : ℕ → Bool) (v : Bool) (s : List ℕ) (lo hi : ℕ) (p : Piece) (z : Part) → LastAt sep v s lo hi p → p ≡ Found z → z.start + z.len ≤ length s
+pub part_inside : (sep : ℕ → Bool) (v : Bool) (s : List ℕ) (lo hi : ℕ) (p : Option Part) (z : Part) → LastAt sep v s lo hi p → p ≡ Some z → z.start + z.len ≤ length s
 part_inside sep v s lo hi p z f n = let t = last_found f n in omega (arith, t.high, t.inside)
 
 pub ruleset backs = (part_inside, end_heads, end_dot, end_bare, end_root, begun, ends_whole, back_head, back_on, back_off, back_short, ahead_on, ahead_start)

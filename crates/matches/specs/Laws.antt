@@ -1,5 +1,5 @@
 -- Laws of starts, ends and strip: one a way through each function, and what they rest on.
-use Rattle.std.specs.Prelude.{ℕ, suc, ◌+◌, ◌≤◌, Bool, cond, drop, eqb}
+use Rattle.std.specs.Prelude.{ℕ, suc, ◌+◌, ◌≤◌, Bool, cond, drop, eqb, Option, Some, None}
 use native.Mathlib.Omega.{arith}
 use Rattle.std.proofs.Math.Path.{◌≡◌, refl, sym, ap}
 use Rattle.std.proofs.Common.{◌∙◌}
@@ -13,16 +13,11 @@ use Rattle.octets.specs.Class.{is_sep}
 use Rattle.octets.specs.Laws.{split}
 use Rattle.octets.specs.declared.Seps.{Seps}
 use Rattle.prefixes.specs.declared.Prefix.{Prefix}
-use Rattle.prefixes.specs.declared.Parsed.{Parsed}
-use Rattle.prefixes.specs.declared.Parsed.TheVariants.{Nothing as Without, Is}
 use Rattle.prefixes.specs.Prefix.{figures_of, parsed_figures}
 use Rattle.parts.specs.declared.Component.{Component}
 use Rattle.parts.specs.declared.Component.TheVariants.{Prefix as Prefixed, RootDir, CurDir, ParentDir, Normal}
 use Rattle.parts.specs.declared.Element.{Element}
-use Rattle.parts.specs.declared.Item.TheVariants.{Here}
 use Rattle.parts.specs.declared.Part.{Part}
-use Rattle.parts.specs.declared.Piece.{Piece}
-use Rattle.parts.specs.declared.Piece.TheVariants.{Nothing, Found}
 use Rattle.parts.specs.Body.{dots, from}
 use Rattle.parts.specs.Elements.{nth_of}
 use Rattle.parts.specs.Steps.{lift, FirstAt}
@@ -34,14 +29,14 @@ use Rattle.components.specs.List.{head_list, body_list, whole_of, list_of}
 use Rattle.components.specs.Leaves.{OpenAt}
 use Rattle.components.specs.Laws.{whole_list}
 use Rattle.cursors.specs.Rest.{prefix_kind, is_prefix, left_end, empty_at}
-use Rattle.order.specs.declared.Ordering.{Ordering}
-use Rattle.order.specs.declared.Ordering.TheVariants.{Less, Equal, Greater}
+use Rattle.std.specs.declared.cmp.Ordering.{Ordering}
+use Rattle.std.specs.declared.cmp.Ordering.TheVariants.{Less, Equal, Greater}
 use Rattle.order.specs.declared.Heads.{Heads}
 use Rattle.order.specs.declared.Heads.TheVariants.{Same, Apart, First, Second}
 use Rattle.order.specs.Values.{Value, valued, prefix_value, value_of, values_in, values_of}
 use Rattle.order.specs.Order.{cmp_value}
 use Rattle.order.proofs.Ordered.{each}
-use Rattle.order.specs.Leaves.{dir_rank, dir_values, head_values, body_values, is_nil, meet_then, meet, meet_first, meet_second, SkipAt}
+use Rattle.order.specs.Leaves.{dir_rank, dir_values, head_values, body_values, is_nil, meet_then, meet, meet_lone, SkipAt}
 use Rattle.order.proofs.HeadLaws.{values_whole, body_kind, head_values_lem, no_head, whole_same, whole_apart, whole_first_end, whole_first_more, whole_second_end, whole_second_more}
 use Rattle.order.specs.Leaves.{lead_kind, prefix_values}
 use Rattle.order.proofs.Laws.{values_none, values_found, heads_bare, heads_second, heads_first, heads_both, skip_meets}
@@ -61,32 +56,37 @@ starts_meet [] (v ∷ m) = refl
 starts_meet (u ∷ l) [] = refl
 starts_meet (u ∷ l) (v ∷ m) = each (cmp_value u v) (λ x. rw x) (λ x. rw x (starts_meet l m)) (λ x. rw x)
 
+pub unequal : (o : Ordering) → (o ≡ Equal → ⊥) → is_equal o ≡ false
+unequal Less n = refl
+unequal Equal n = absurd (n refl)
+unequal Greater n = refl
+
 -- `walk`: e and d say what the loop has kept, q and p are the next pieces
-module _ (k h : Seps) (s t : List ℕ) (i j x y : ℕ) (e : starts_body k s i h t j ≡ starts_body k s x h t y) (q : Piece) (g : FirstAt (is_sep h) (dots h) t y q) where
-  pub walk_end : left_body k s i h t j ≡ left_body k s x h t y → q ≡ Nothing → BehindAt k s i h t j (Body x)
+module _ (k h : Seps) (s t : List ℕ) (i j x y : ℕ) (e : starts_body k s i h t j ≡ starts_body k s x h t y) (q : Option Part) (g : FirstAt (is_sep h) (dots h) t y q) where
+  pub walk_end : left_body k s i h t j ≡ left_body k s x h t y → q ≡ None → BehindAt k s i h t j (Body x)
   unfolding starts_body left_body starts_with
   walk_end d b = record { says = record { starts = e ∙ rw (values_none h t y q g b); left = d ∙ rw (first_none g b) } }
 
-  module _ (n : Part) (b : q ≡ Found n) (p : Piece) (f : FirstAt (is_sep k) (dots k) s x p) where
-    pub walk_short : p ≡ Nothing → BehindAt k s i h t j Off
+  module _ (n : Part) (b : q ≡ Some n) (p : Option Part) (f : FirstAt (is_sep k) (dots k) s x p) where
+    pub walk_short : p ≡ None → BehindAt k s i h t j Off
     unfolding starts_body starts_with
     walk_short a = record { says = e ∙ rw (values_none k s x p f a, values_found h t y q g n b) }
 
-    module _ (m : Part) (a : p ≡ Found m) where
+    module _ (m : Part) (a : p ≡ Some m) where
       pub walk_left : left_body k s i h t j ≡ left_body k s x h t y → left_body k s i h t j ≡ left_body k s (m.start + m.len + 1) h t (n.start + n.len + 1)
       unfolding left_body
       walk_left d = d ∙ rw ((first_found f a).is, (first_found g b).is)
 
-      module _ (o : Ordering) (c : o ≡ cmp_value (value_of s (lift m)) (value_of t (lift n))) (z : Bool) (w : z ≡ is_equal o) where
-        walk_by : starts_body k s i h t j ≡ cond z (starts_body k s (m.start + m.len + 1) h t (n.start + n.len + 1)) false
+      module _ (o : Ordering) (c : o ≡ cmp_value (value_of s (lift m)) (value_of t (lift n))) where
+        walk_by : starts_body k s i h t j ≡ cond (is_equal o) (starts_body k s (m.start + m.len + 1) h t (n.start + n.len + 1)) false
         unfolding starts_body starts_with
-        walk_by = e ∙ rw (values_found k s x p f m a, values_found h t y q g n b, w, c)
+        walk_by = e ∙ rw (values_found k s x p f m a, values_found h t y q g n b, c)
 
-        pub walk_on : z ≡ true → starts_body k s i h t j ≡ starts_body k s (m.start + m.len + 1) h t (n.start + n.len + 1)
+        pub walk_on : o ≡ Equal → starts_body k s i h t j ≡ starts_body k s (m.start + m.len + 1) h t (n.start + n.len + 1)
         walk_on d = walk_by ∙ rw d
 
-        pub walk_off : z ≡ false → BehindAt k s i h t j Off
-        walk_off d = record { says = walk_by ∙ rw d }
+        pub walk_off : (o ≡ Equal → ⊥) → BehindAt k s i h t j Off
+        walk_off d = record { says = walk_by ∙ rw (unequal o d) }
 
 -- `follow_bodies`
 module _ (k : Seps) (s : List ℕ) (i : ℕ) (h : Seps) (t : List ℕ) (j : ℕ) (x : i ≤ length s) (y : j ≤ length t) (n : ℕ) (m : SkipAt k s i h t j n) where
@@ -106,9 +106,9 @@ module _ (k : Seps) (s : List ℕ) (i : ℕ) (h : Seps) (t : List ℕ) (j : ℕ)
 pub ruleset pieces = (walk_end, walk_short, walk_left, walk_on, walk_off, skip_behind)
 
 -- ---- heads
-pub by_prefix : {A : Type 0} (p : Parsed) → (p ≡ Without → A) → ((x : Prefix) → p ≡ Is x → A) → A
-by_prefix Without f g = f refl
-by_prefix (Is x) f g = g x refl
+pub by_prefix : {A : Type 0} (p : Option Prefix) → (p ≡ None → A) → ((x : Prefix) → p ≡ Some x → A) → A
+by_prefix None f g = f refl
+by_prefix (Some x) f g = g x refl
 
 -- lists that meet so: how long they are
 meet_long : (l m : List Value) → meet l m ≡ Same → length l ≡ length m
@@ -148,18 +148,18 @@ body_long k s i = sym (length-map (from (is_sep k) (dots k) s i) (value_of s))
 -- two heads that meet as m says
 module _ (s : List ℕ) (g : Start) (t : List ℕ) (h : Start) (m : Heads) (e : m ≡ meet (head_values s g) (head_values t h)) where
   -- where the second has a prefix, the first has one too, unless it comes behind or is used up
-  prefix_too : {A : Type 0} (q : Prefix) → h.prefix ≡ Is q → (m ≡ Second → ⊥) → ((o : Ordering) → m ≡ Apart o → ⊥) → ((p : Prefix) → g.prefix ≡ Is p → A) → A
+  prefix_too : {A : Type 0} (q : Prefix) → h.prefix ≡ Some q → (m ≡ Second → ⊥) → ((o : Ordering) → m ≡ Apart o → ⊥) → ((p : Prefix) → g.prefix ≡ Some p → A) → A
   prefix_too q y a b f =
       by_prefix g.prefix
-      (λ x. let z : m ≡ meet_second (dir_rank g.dir) = e ∙ sym (heads_second s g t h _ q x y refl) in
+      (λ x. let z : m ≡ meet_lone (dir_rank g.dir) Second Greater = e ∙ sym (heads_second s g t h _ q x y refl) in
       split (eqb (dir_rank g.dir) 0) (λ w. absurd (a (z ∙ rw w))) (λ w. absurd (b Greater (z ∙ rw w))))
       f
 
   -- alike, they have both a prefix or none
-  same_none : h.prefix ≡ Without → m ≡ Same → g.prefix ≡ Without
+  same_none : h.prefix ≡ None → m ≡ Same → g.prefix ≡ None
   same_none y z =
       by_prefix g.prefix (λ x. x)
-      (λ p x. let w : m ≡ meet_first (dir_rank h.dir) = e ∙ sym (heads_first s g t h _ p x y refl) in
+      (λ p x. let w : m ≡ meet_lone (dir_rank h.dir) First Less = e ∙ sym (heads_first s g t h _ p x y refl) in
       split (eqb (dir_rank h.dir) 0) (λ v. bad (let u : First ≡ Same = sym (w ∙ rw v) ∙ z in cc)) (λ v. bad (let u : Apart Less ≡ Same = sym (w ∙ rw v) ∙ z in cc)))
 
   -- where the first goes on, the second has nothing behind its prefix
@@ -168,7 +168,7 @@ module _ (s : List ℕ) (g : Start) (t : List ℕ) (h : Start) (m : Heads) (e : 
       by_prefix h.prefix
       (λ y. by_prefix g.prefix
       (λ x. dirs_first (dir_rank g.dir) (dir_rank h.dir) (heads_bare s g t h _ x y refl ∙ sym e ∙ f))
-      (λ p x. let w : m ≡ meet_first (dir_rank h.dir) = e ∙ sym (heads_first s g t h _ p x y refl) in
+      (λ p x. let w : m ≡ meet_lone (dir_rank h.dir) First Less = e ∙ sym (heads_first s g t h _ p x y refl) in
       split (eqb (dir_rank h.dir) 0) (λ v. eqb-true (dir_rank h.dir) 0 v) (λ v. bad (let u : Apart Less ≡ First = sym (w ∙ rw v) ∙ f in cc))))
       (λ q y. prefix_too q y (λ z. bad (let u : First ≡ Second = sym f ∙ z in cc)) (λ o z. bad (let u : First ≡ Apart o = sym f ∙ z in cc))
       (λ p x. dirs_first (dir_rank g.dir) (dir_rank h.dir) (then_first (cmp_value (prefix_value s (parsed_figures g.prefix)) (prefix_value t (parsed_figures h.prefix))) _ (heads_both s g t h _ p q x y refl ∙ sym e ∙ f))))
@@ -205,7 +205,7 @@ module _ (t : List ℕ) (h : Start) (l : lonely t h ≡ true) where
 
 -- the first element of a list with a prefix, and of one without
 module _ (k : Seps) (s : List ℕ) (g : Start) (o : OpenAt k s g) where
-  pub prefix_first : (p : Prefix) → g.prefix ≡ Is p → nth_of (list_of k s) 0 ≡ Here (record { component = Prefixed p; start = 0; len = g.end })
+  pub prefix_first : (p : Prefix) → g.prefix ≡ Some p → nth_of (list_of k s) 0 ≡ Some (record { component = Prefixed p; start = 0; len = g.end })
   unfolding whole_of head_list nth_of
   prefix_first p e = rw (← whole_list k s g o, e)
 
@@ -228,7 +228,7 @@ module _ (k : Seps) (s : List ℕ) (g : Start) (o : OpenAt k s g) where
   plain_kind Implied m h = omega arith
   plain_kind Dot m h = omega arith
 
-  pub plain_first : g.prefix ≡ Without → is_prefix (nth_of (list_of k s) 0) ≡ false
+  pub plain_first : g.prefix ≡ None → is_prefix (nth_of (list_of k s) 0) ≡ false
   unfolding values_of
   plain_first e =
       let m = body_values g.seps s g.at in
@@ -323,7 +323,7 @@ module _ (k : Seps) (s : List ℕ) (g : Start) (o : OpenAt k s g) (t : List ℕ)
             not_lonely (rw d.1) (no_values (body_values h.seps t h.at) (omega (arith, taken)))
 
         -- a base of one component that is no lone prefix has no prefix
-        one_bare : length (list_of k t) ≡ 1 → h.prefix ≡ Without
+        one_bare : length (list_of k t) ≡ 1 → h.prefix ≡ None
         unfolding dir_values
         one_bare u =
             by_prefix h.prefix (λ y. y)

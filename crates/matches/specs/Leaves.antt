@@ -1,9 +1,7 @@
 -- What the leaves promise and the loops keep. Nothing here has to be believed: the public promises do not name it.
-use Rattle.std.specs.Prelude.{ℕ, ◌+◌, ◌≤◌, ◌≡◌, List, ◌++◌, Bool, true, false, cond, length, drop, eqb}
+use Rattle.std.specs.Prelude.{ℕ, ◌+◌, ◌≤◌, ◌≡◌, List, ◌++◌, Bool, true, false, cond, length, drop, eqb, Option, Some, None}
 use Rattle.octets.specs.Class.{is_sep}
 use Rattle.octets.specs.declared.Seps.{Seps}
-use Rattle.prefixes.specs.declared.Parsed.{Parsed}
-use Rattle.prefixes.specs.declared.Parsed.TheVariants.{Nothing, Is}
 use Rattle.prefixes.specs.Prefix.{parsed_figures}
 use Rattle.prefixes.specs.Leaves.{NamesIn}
 use Rattle.parts.specs.declared.Element.{Element}
@@ -24,6 +22,7 @@ use Rattle.order.specs.Leaves.{dir_rank, head_values, body_values, is_nil}
 use Rattle.matches.specs.declared.After.{After}
 use Rattle.matches.specs.declared.After.TheVariants.{Off, Head, Body}
 use Rattle.matches.specs.Match.{same, starts_with, starts_of}
+use Rattle.prefixes.specs.declared.Prefix.{Prefix}
 
 -- the first of two lists that meet so starts with the second
 abbrev pub is_base : Heads → Bool
@@ -58,9 +57,9 @@ unfoldable pub lonely : List ℕ → Start → Bool
 lonely t h = cond (eqb (dir_rank h.dir) 0) (is_nil (body_values h.seps t h.at)) false
 
 -- where the rest starts behind at most a prefix that ends at e
-abbrev pub head_start : Parsed → ℕ → ℕ
-head_start Nothing e = 0
-head_start (Is p) e = e
+abbrev pub head_start : Option Prefix → ℕ → ℕ
+head_start None e = 0
+head_start (Some p) e = e
 
 -- t has at most one component, and leaves of s what starts at a, in or before the body
 pub record AtHead (k : Seps) (s : List ℕ) (g : Start) (t : List ℕ) (a : ℕ) : Type 0 where
@@ -102,12 +101,12 @@ is_dot Name = false
 -- what is known of the head g of s: its names lie in s, a dot stands in it alone, and without a head no dot stands first
 pub record Begun (s : List ℕ) (g : Start) : Type 0 where
   pub names : NamesIn s (parsed_figures g.prefix)
-  pub alone : g.dir ≡ Here → g.prefix ≡ Nothing
-  pub lead : g.prefix ≡ Nothing → g.dir ≡ Bare → 4 ≤ lead_kind (body_values g.seps s g.at)
+  pub alone : g.dir ≡ Here → g.prefix ≡ None
+  pub lead : g.prefix ≡ None → g.dir ≡ Bare → 4 ≤ lead_kind (body_values g.seps s g.at)
 
-abbrev pub same_prefix : List ℕ → List ℕ → Parsed → Parsed → Bool
-same_prefix s t Nothing q = false
-same_prefix s t (Is p) q = same (prefix_value s (parsed_figures (Is p))) (prefix_value t (parsed_figures q))
+abbrev pub same_prefix : List ℕ → List ℕ → Option Prefix → Option Prefix → Bool
+same_prefix s t None q = false
+same_prefix s t (Some p) q = same (prefix_value s (parsed_figures (Some p))) (prefix_value t (parsed_figures q))
 
 -- the values of s before place x, behind the head g
 unfoldable pub front_of : List ℕ → Start → ℕ → List Value

@@ -1,8 +1,8 @@
 -- Whether a path starts or ends with another. Document 01, "Views over the list": "Starts with, ends with: by components."
 use Rattle.std.specs.Prelude.{Bool, true, false, cond, List, [], ◌∷◌, reverse, ℕ}
 use Rattle.octets.specs.declared.Seps.{Seps}
-use Rattle.order.specs.declared.Ordering.{Ordering}
-use Rattle.order.specs.declared.Ordering.TheVariants.{Less, Equal, Greater}
+use Rattle.std.specs.declared.cmp.Ordering.{Ordering}
+use Rattle.std.specs.declared.cmp.Ordering.TheVariants.{Less, Equal, Greater}
 use Rattle.order.specs.Values.{Value, values_of}
 use Rattle.order.specs.Order.{cmp_value}
 

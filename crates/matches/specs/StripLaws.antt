@@ -1,5 +1,5 @@
 -- Laws of strip: where a path's list ends, the rest behind a base, and one law a way through each function.
-use Rattle.std.specs.Prelude.{ℕ, zero, suc, ◌+◌, ◌-◌, ◌*◌, ◌^◌, ◌<◌, ◌≤◌, ◌≡◌, refl, List, [], ◌∷◌, ◌++◌, Bool, take, drop, eqb, ltb}
+use Rattle.std.specs.Prelude.{ℕ, zero, suc, ◌+◌, ◌-◌, ◌*◌, ◌^◌, ◌<◌, ◌≤◌, ◌≡◌, refl, List, [], ◌∷◌, ◌++◌, Bool, take, drop, eqb, ltb, Option, Some, None}
 use Rattle.std.specs.Int.{w64}
 use Rattle.std.proofs.Common.{Fits, ap, ◌∙◌, append-nil, append_assoc, length-append, length-drop}
 use native.Mathlib.Omega.{arith}
@@ -18,14 +18,9 @@ use Rattle.answers.specs.Reply.{refused_view, seen}
 use Rattle.answers.specs.Outcome.{told}
 use Rattle.answers.specs.Laws.{absent, done}
 use Rattle.prefixes.specs.declared.Prefix.{Prefix}
-use Rattle.prefixes.specs.declared.Parsed.{Parsed}
-use Rattle.prefixes.specs.declared.Parsed.TheVariants.{Nothing as Without, Is}
 use Rattle.prefixes.specs.Prefix.{end_of_prefix, on_disk}
 use Rattle.parts.specs.declared.Element.{Element}
-use Rattle.parts.specs.declared.Item.TheVariants.{Here}
 use Rattle.parts.specs.declared.Part.{Part}
-use Rattle.parts.specs.declared.Piece.{Piece}
-use Rattle.parts.specs.declared.Piece.TheVariants.{Nothing, Found}
 use Rattle.parts.specs.Body.{dots}
 use Rattle.parts.specs.Elements.{nth_of, nth_back_of, end_or, Upto}
 use Rattle.parts.specs.Steps.{lift, FirstAt, within, LastAt}
@@ -64,7 +59,7 @@ bare_is Dot e = absurd (false≢true e)
 
 -- a path with a dot that belongs to no component has a prefix, and nothing behind it in its head
 module _ (s : List ℕ) (g : Start) (d : dotted g s ≡ true) where
-  dotted_prefix : {A : Type 0} → ((p : Prefix) → g.prefix ≡ Is p → A) → A
+  dotted_prefix : {A : Type 0} → ((p : Prefix) → g.prefix ≡ Some p → A) → A
   unfolding dotted
   dotted_prefix f = by_prefix g.prefix (λ x. absurd (false≢true (rw x at d))) f
 
@@ -85,39 +80,39 @@ module _ (k : Seps) (s : List ℕ) (g : Start) (o : OpenAt k s g) where
   open_at = rw o.is
 
   -- a head's elements end where the body starts
-  head_upto_by : (p : Parsed) (d : Dir) (e : ℕ) → Upto (e + dir_len d) (prefix_part p e ++ dir_part d e)
+  head_upto_by : (p : Option Prefix) (d : Dir) (e : ℕ) → Upto (e + dir_len d) (prefix_part p e ++ dir_part d e)
   unfolding Upto
-  head_upto_by Without Bare e = tt
-  head_upto_by Without Root e = (omega arith, tt)
-  head_upto_by Without Implied e = (omega arith, tt)
-  head_upto_by Without Dot e = (omega arith, tt)
-  head_upto_by (Is p) Bare e = (omega arith, tt)
-  head_upto_by (Is p) Root e = (omega arith, (omega arith, tt))
-  head_upto_by (Is p) Implied e = (omega arith, (omega arith, tt))
-  head_upto_by (Is p) Dot e = (omega arith, (omega arith, tt))
+  head_upto_by None Bare e = tt
+  head_upto_by None Root e = (omega arith, tt)
+  head_upto_by None Implied e = (omega arith, tt)
+  head_upto_by None Dot e = (omega arith, tt)
+  head_upto_by (Some p) Bare e = (omega arith, tt)
+  head_upto_by (Some p) Root e = (omega arith, (omega arith, tt))
+  head_upto_by (Some p) Implied e = (omega arith, (omega arith, tt))
+  head_upto_by (Some p) Dot e = (omega arith, (omega arith, tt))
 
   head_upto : Upto g.at (head_list g)
   unfolding head_list
   head_upto = rw open_at (head_upto_by g.prefix g.dir g.end)
 
-  head_last_by : (p : Parsed) (d : Dir) (e : ℕ) → e ≡ end_of_prefix p → end_or (nth_back_of (prefix_part p e ++ dir_part d e) 0) ≡ e + dir_len d
+  head_last_by : (p : Option Prefix) (d : Dir) (e : ℕ) → e ≡ end_of_prefix p → end_or (nth_back_of (prefix_part p e ++ dir_part d e) 0) ≡ e + dir_len d
   unfolding nth_back_of nth_of
-  head_last_by Without Bare e h = omega (arith, h)
-  head_last_by Without Root e h = omega arith
-  head_last_by Without Implied e h = omega arith
-  head_last_by Without Dot e h = omega arith
-  head_last_by (Is p) Bare e h = omega arith
-  head_last_by (Is p) Root e h = omega arith
-  head_last_by (Is p) Implied e h = omega arith
-  head_last_by (Is p) Dot e h = omega arith
+  head_last_by None Bare e h = omega (arith, h)
+  head_last_by None Root e h = omega arith
+  head_last_by None Implied e h = omega arith
+  head_last_by None Dot e h = omega arith
+  head_last_by (Some p) Bare e h = omega arith
+  head_last_by (Some p) Root e h = omega arith
+  head_last_by (Some p) Implied e h = omega arith
+  head_last_by (Some p) Dot e h = omega arith
 
   head_last : end_or (nth_back_of (head_list g) 0) ≡ g.at
   unfolding head_list
   head_last = head_last_by g.prefix g.dir g.end open_end ∙ sym open_at
 
   -- `last_end`: p is what `last` told of the body
-  module _ (p : Piece) (f : LastAt (is_sep g.seps) (dots g.seps) s g.at (length s) p) where
-    module _ (n : p ≡ Nothing) where
+  module _ (p : Option Part) (f : LastAt (is_sep g.seps) (dots g.seps) s g.at (length s) p) where
+    module _ (n : p ≡ None) where
       bare_list : list_of k s ≡ head_list g
       unfolding whole_of
       bare_list = sym (whole_list k s g o) ∙ rw (body_within g s, last_none f n) (append-nil (head_list g))
@@ -142,7 +137,7 @@ module _ (k : Seps) (s : List ℕ) (g : Start) (o : OpenAt k s g) where
     pub dot_fits : length s * 1 < 2 ^ 63 → Fits w64 (g.at + 1)
     dot_fits w = record { fits = omega (arith, o.high) }
 
-    module _ (z : Part) (n : p ≡ Found z) where
+    module _ (z : Part) (n : p ≡ Some z) where
       -- what stands before the last part
       abbrev before : List Element
       before = head_list g ++ within (is_sep g.seps) (dots g.seps) s g.at z.start
@@ -245,7 +240,7 @@ module _ (d : Bool) (l : List Element) (f : ℕ) where
     unfolding last_of
     last_body = rw no_dot
 
-    rest_body : (z : Part) (e : ℕ) → nth_of l f ≡ Here (lift z) → e ≡ last_of d l → span z.start e ≡ rest_of d l f 0
+    rest_body : (z : Part) (e : ℕ) → nth_of l f ≡ Some (lift z) → e ≡ last_of d l → span z.start e ≡ rest_of d l f 0
     unfolding rest_of left_end
     rest_body z e x w =
         let c : f + 0 ≡ f = omega arith in
@@ -294,9 +289,9 @@ module _ (k : Seps) (s : List ℕ) (g : Start) (o : OpenAt k s g) (t : List ℕ)
           let w = after_head k s g t a f x u in
           strip_is (span x e) w.starts (rest_head (dotted g s) (list_of k s) (length (list_of k t)) x e w.few (fewer w.starts) w.is w.spent l.is)
 
-    module _ (x : ℕ) (u : a ≡ Body x) (p : Piece) (q : FirstAt (is_sep g.seps) (dots g.seps) s x p) where
-      module _ (z : Part) (n : p ≡ Found z) where
-        next : nth_of (list_of k s) (length (list_of k t)) ≡ Here (lift z)
+    module _ (x : ℕ) (u : a ≡ Body x) (p : Option Part) (q : FirstAt (is_sep g.seps) (dots g.seps) s x p) where
+      module _ (z : Part) (n : p ≡ Some z) where
+        next : nth_of (list_of k s) (length (list_of k t)) ≡ Some (lift z)
         unfolding nth_of
         next = nth_drop (list_of k s) (length (list_of k t)) ∙ rw ((after_body k s g t a f x u).left, (first_found q n).is)
 
@@ -308,7 +303,7 @@ module _ (k : Seps) (s : List ℕ) (g : Start) (o : OpenAt k s g) (t : List ℕ)
             let w = after_body k s g t a f x u in
             strip_is (span z.start e) w.starts (rest_body (dotted g s) (list_of k s) (length (list_of k t)) (fewer w.starts) w.some w.beyond dot_prefixed z e next l.is)
 
-      pub strip_all : p ≡ Nothing → seen e 0 ≡ told refused_view (strip_of k s t)
+      pub strip_all : p ≡ None → seen e 0 ≡ told refused_view (strip_of k s t)
       strip_all n =
           let w = after_body k s g t a f x u in
           let c : length (list_of k t) ≡ length (list_of k s) = omega (arith, fewer w.starts, length-drop (length (list_of k t)) (list_of k s), ap length (w.left ∙ first_none q n)) in

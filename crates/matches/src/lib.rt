@@ -1,6 +1,6 @@
 // Whether a path starts or ends with another, by components, and what remains of it behind the other. Each call is one walk
 // over both paths by places: heads first and then bodies, or for the end bodies first and from the back.
-#![tactic(auto)]
+#![tactic(auto, using(crate::specs::EndLaws::backs, crate::specs::EndLaws::endings, crate::specs::Laws::follows, crate::specs::Laws::pieces, crate::specs::StripLaws::lasts, crate::specs::StripLaws::strips, order::proofs::Laws::headings, parts::specs::Laws::walks))]
 
 ghost use Rattle.std.specs.Prelude.{◌≡◌, ◌+◌, ◌≤◌, length};
 ghost use Rattle.prefixes.specs.Prefix.{parsed_figures};
@@ -16,9 +16,10 @@ ghost use Rattle.matches.specs.Leaves.{is_dot, head_start, lonely, BehindAt, Aft
 use answers::{Reply, View};
 use components::Start;
 use octets::Seps;
-use order::{Heads, Ordering};
-use parts::{Kind, Piece};
-use prefixes::Parsed;
+use order::Heads;
+use parts::Kind;
+use prefixes::Prefix;
+use std::cmp::Ordering;
 
 // What a base leaves of a path: it is no base; nothing but the prefix is gone, if that, and the rest starts at a place; or
 // the body from a place on.
@@ -29,39 +30,25 @@ pub enum After {
     Body(usize),
 }
 
-fn is_equal(o: Ordering) -> bool
-    ensures { result ≡ is_equal o }
-{
-    match o {
-        Ordering::Less => false,
-        Ordering::Equal => true,
-        Ordering::Greater => false,
-    }
-}
-
 // Whether the parts of s from i on start with those of t from j on, and where they go on behind them.
 fn walk(k: Seps, s: &[u8], i: usize, h: Seps, t: &[u8], j: usize) -> After
     ensures { BehindAt k s.now i h t.now j result }
 {
     let mut x = i;
     let mut y = j;
-    loop {
-        let q = parts::first(h, t, y);
-        let Piece::Found(b) = q else {
-            return After::Body(x);
-        };
-        let p = parts::first(k, s, x);
-        let Piece::Found(a) = p else {
+    while let Some(b) = parts::first(h, t, y) {
+        let Some(a) = parts::first(k, s, x) else {
             return After::Off;
         };
-        let o = order::cmp_part(s, a, t, b);
-        if is_equal(o) {
-            x = a.start + a.len + 1;
-            y = b.start + b.len + 1;
-        } else {
-            return After::Off;
+        match order::cmp_part(s, a, t, b) {
+            Ordering::Equal => {
+                x = a.start + a.len + 1;
+                y = b.start + b.len + 1;
+            }
+            _ => return After::Off,
         }
     }
+    After::Body(x)
 }
 
 // The same of the bodies behind the heads g and h.
@@ -69,34 +56,23 @@ fn follow_bodies(s: &[u8], g: Start, t: &[u8], h: Start) -> After
     requires { (g.at ≤ length s.now) × (h.at ≤ length t.now) }
     ensures { BehindAt g.seps s.now g.at h.seps t.now h.at result }
 {
-    let k = g.seps;
-    let i = g.at;
-    let l = h.seps;
-    let j = h.at;
     let n = order::mismatch(s, t);
-    let m = order::skip(k, s, i, l, t, j, n);
-    walk(k, s, i + m, l, t, j + m)
+    let m = order::skip(g.seps, s, g.at, h.seps, t, h.at, n);
+    walk(g.seps, s, g.at + m, h.seps, t, h.at + m)
 }
 
 // Where the rest starts while nothing is taken, or nothing but the prefix, which ends at e.
-fn head_start(q: Parsed, e: usize) -> usize
+fn head_start(q: Option<Prefix>, e: usize) -> usize
     ensures { result ≡ head_start q e }
 {
-    match q {
-        Parsed::Nothing => 0,
-        Parsed::Is(_) => e,
-    }
+    if q.is_some() { e } else { 0 }
 }
 
 // Whether the path t, whose head is h, is nothing, or nothing but a prefix.
 fn is_lone(h: Start, t: &[u8]) -> bool
     ensures { result ≡ lonely t.now h }
 {
-    let d = h.dir;
-    if order::dir_rank(d) == 0 {
-        return order::is_bare(h, t);
-    }
-    false
+    order::dir_rank(h.dir) == 0 && order::is_bare(h, t)
 }
 
 // What t leaves of s, whose head is g.
@@ -105,39 +81,18 @@ fn follow(k: Seps, s: &[u8], g: Start, t: &[u8]) -> After
     ensures { AfterAt k s.now g t.now result }
 {
     let h = components::begin(k, t);
-    let q = h.prefix;
-    let m = order::meet_heads(s, g, t, h);
-    match m {
-        Heads::Same => {}
-        Heads::Apart(_) => {
-            return After::Off;
-        }
-        Heads::First => {
-            if is_lone(h, t) {
-                return After::Head(head_start(q, g.end));
-            }
-            return After::Off;
-        }
-        Heads::Second => {
-            return After::Off;
-        }
+    match order::meet_heads(s, g, t, h) {
+        Heads::Same if is_lone(h, t) => After::Head(head_start(h.prefix, g.end)),
+        Heads::Same => follow_bodies(s, g, t, h),
+        Heads::First if is_lone(h, t) => After::Head(head_start(h.prefix, g.end)),
+        _ => After::Off,
     }
-    if is_lone(h, t) {
-        return After::Head(head_start(q, g.end));
-    }
-    follow_bodies(s, g, t, h)
 }
 
 pub fn starts_with(k: Seps, s: &[u8], t: &[u8]) -> bool
     ensures { result ≡ starts_of k s.now t.now }
 {
-    let g = components::begin(k, s);
-    let a = follow(k, s, g, t);
-    match a {
-        After::Off => false,
-        After::Head(_) => true,
-        After::Body(_) => true,
-    }
+    !matches!(follow(k, s, components::begin(k, s), t), After::Off)
 }
 
 // Where the last component of s, whose head is g, ends; or behind a dot that belongs to none: `C:.`.
@@ -145,17 +100,14 @@ fn last_end(k: Seps, s: &[u8], g: Start) -> usize
     requires { OpenAt k s.now g }
     ensures { LastEnd k s.now g result }
 {
-    let l = g.seps;
-    let at = g.at;
-    let p = parts::last(l, s, at, s.len());
-    match p {
-        Piece::Nothing => {
+    match parts::last(g.seps, s, g.at, s.len()) {
+        None => {
             if cursors::is_dotted(g, s) {
-                return at + 1;
+                return g.at + 1;
             }
-            at
+            g.at
         }
-        Piece::Found(q) => q.start + q.len,
+        Some(q) => q.start + q.len,
     }
 }
 
@@ -164,28 +116,22 @@ pub fn strip_prefix(k: Seps, s: &[u8], t: &[u8]) -> View
     ensures { result ≡ told refused_view (strip_of k s.now t.now) }
 {
     let g = components::begin(k, s);
-    let a = follow(k, s, g, t);
-    match a {
-        After::Off => answers::refuse_view(Reply::Absent),
-        After::Head(start) => {
-            let e = last_end(k, s, g);
-            View {
-                reply: Reply::Done,
-                start,
-                len: e - start,
-            }
-        }
+    match follow(k, s, g, t) {
+        After::Off => View::from(Reply::Absent),
+        After::Head(start) => View {
+            reply: Reply::Done,
+            start,
+            len: last_end(k, s, g) - start,
+        },
         After::Body(x) => {
             let e = last_end(k, s, g);
-            let l = g.seps;
-            let p = parts::first(l, s, x);
-            match p {
-                Piece::Nothing => View {
+            match parts::first(g.seps, s, x) {
+                None => View {
                     reply: Reply::Done,
                     start: e,
                     len: 0,
                 },
-                Piece::Found(q) => View {
+                Some(q) => View {
                     reply: Reply::Done,
                     start: q.start,
                     len: e - q.start,
@@ -198,27 +144,20 @@ pub fn strip_prefix(k: Seps, s: &[u8], t: &[u8]) -> View
 fn is_dot(k: Kind) -> bool
     ensures { result ≡ is_dot k }
 {
-    match k {
-        Kind::Dot => true,
-        Kind::DotDot => false,
-        Kind::Name => false,
-    }
+    matches!(k, Kind::Dot)
 }
 
 // Whether both heads have a prefix, and it is the same.
-fn same_prefix(s: &[u8], p: Parsed, t: &[u8], q: Parsed) -> bool
+fn same_prefix(s: &[u8], p: Option<Prefix>, t: &[u8], q: Option<Prefix>) -> bool
     requires { NamesIn s.now (parsed_figures p) × NamesIn t.now (parsed_figures q) }
     ensures { result ≡ same_prefix s.now t.now p q }
 {
-    match p {
-        Parsed::Nothing => {
-            return false;
-        }
-        Parsed::Is(_) => {}
+    if p.is_none() {
+        return false;
     }
     let a = prefixes::figures_of(p);
     let b = prefixes::figures_of(q);
-    is_equal(order::cmp_prefix(s, a, t, b))
+    order::cmp_prefix(s, a, t, b) == Ordering::Equal
 }
 
 // Whether the head g of s ends with the head h of t.
@@ -226,26 +165,12 @@ fn ends_heads(s: &[u8], g: Start, t: &[u8], h: Start) -> bool
     requires { NamesIn s.now (parsed_figures g.prefix) × NamesIn t.now (parsed_figures h.prefix) }
     ensures { result ≡ ends_with (head_values s.now g) (head_values t.now h) }
 {
-    let p = g.prefix;
-    let q = h.prefix;
-    let i = g.dir;
-    let j = h.dir;
-    let c = order::dir_rank(i);
-    let e = order::dir_rank(j);
-    match q {
-        Parsed::Nothing => {
-            if e == 0 {
-                return true;
-            }
-            c == e
-        }
-        Parsed::Is(_) => {
-            if c == e {
-                return same_prefix(s, p, t, q);
-            }
-            false
-        }
+    let c = order::dir_rank(g.dir);
+    let e = order::dir_rank(h.dir);
+    if h.prefix.is_some() {
+        return c == e && same_prefix(s, g.prefix, t, h.prefix);
     }
+    e == 0 || c == e
 }
 
 // Whether s up to x, with the head g, ends with the head h of t. Of a head only a dot can be a part of a body.
@@ -253,24 +178,13 @@ fn ends_head(s: &[u8], g: Start, x: usize, t: &[u8], h: Start) -> bool
     requires { (x ≤ length s.now) × Begun s.now g × Begun t.now h }
     ensures { result ≡ ends_with (front_of s.now g x) (head_values t.now h) }
 {
-    let k = g.seps;
-    let at = g.at;
-    let p = parts::last(k, s, at, x);
-    match p {
-        Piece::Nothing => ends_heads(s, g, t, h),
-        Piece::Found(a) => {
-            let d = h.dir;
-            let l = a.kind;
-            let q = h.prefix;
-            let e = order::dir_rank(d);
-            if e == 3 {
-                return is_dot(l);
-            }
-            if e == 0 {
-                return !prefixes::has_prefix(q);
-            }
-            false
-        }
+    match parts::last(g.seps, s, g.at, x) {
+        None => ends_heads(s, g, t, h),
+        Some(a) => match order::dir_rank(h.dir) {
+            3 => is_dot(a.kind),
+            0 => h.prefix.is_none(),
+            _ => false,
+        },
     }
 }
 
@@ -279,35 +193,25 @@ fn walk_back(s: &[u8], g: Start, t: &[u8], h: Start) -> bool
     requires { Begun s.now g × Begun t.now h }
     ensures { result ≡ ends_with (front_of s.now g (length s.now)) (front_of t.now h (length t.now)) }
 {
-    let k = g.seps;
-    let lo = g.at;
-    let l = h.seps;
-    let to = h.at;
     let mut x = s.len();
     let mut y = t.len();
-    loop {
-        let q = parts::last(l, t, to, y);
-        let Piece::Found(b) = q else {
-            return ends_head(s, g, x, t, h);
-        };
-        let p = parts::last(k, s, lo, x);
-        let Piece::Found(a) = p else {
+    while let Some(b) = parts::last(h.seps, t, h.at, y) {
+        let Some(a) = parts::last(g.seps, s, g.at, x) else {
             return false;
         };
-        let o = order::cmp_part(s, a, t, b);
-        if is_equal(o) {
-            x = a.start;
-            y = b.start;
-        } else {
-            return false;
+        match order::cmp_part(s, a, t, b) {
+            Ordering::Equal => {
+                x = a.start;
+                y = b.start;
+            }
+            _ => return false,
         }
     }
+    ends_head(s, g, x, t, h)
 }
 
 pub fn ends_with(k: Seps, s: &[u8], t: &[u8]) -> bool
     ensures { result ≡ ends_of k s.now t.now }
 {
-    let g = components::begin(k, s);
-    let h = components::begin(k, t);
-    walk_back(s, g, t, h)
+    walk_back(s, components::begin(k, s), t, components::begin(k, t))
 }

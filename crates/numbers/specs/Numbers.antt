@@ -1,18 +1,15 @@
 -- The answers in numbers, the reply's first, in the order of docs/PROTOCOL.md and of include/bridlestep.h.
-use Rattle.std.specs.Prelude.{ℕ, List, [], ◌∷◌}
+use Rattle.std.specs.Prelude.{ℕ, List, [], ◌∷◌, Option, Some, None}
 use Rattle.answers.specs.declared.Verdict.{Verdict}
 use Rattle.answers.specs.declared.View.{View}
 use Rattle.answers.specs.Reply.{number_of}
-use Rattle.prefixes.specs.declared.Parsed.{Parsed}
-use Rattle.prefixes.specs.declared.Parsed.TheVariants.{Nothing as Without, Is as Has}
 use Rattle.prefixes.specs.declared.Figures.{Figures}
 use Rattle.prefixes.specs.Prefix.{parsed_figures}
 use Rattle.parts.specs.declared.Component.{Component}
-use Rattle.parts.specs.declared.Component.TheVariants.{Prefix, RootDir, CurDir, ParentDir, Normal}
+use Rattle.parts.specs.declared.Component.TheVariants.{Prefix as WithPrefix, RootDir, CurDir, ParentDir, Normal}
 use Rattle.paths.specs.declared.Prefixed.{Prefixed}
-use Rattle.paths.specs.declared.steps.Taken.{Taken}
-use Rattle.paths.specs.declared.steps.Taken.TheVariants.{Nothing, Is}
 use Rattle.paths.specs.declared.steps.Stepped.{Stepped}
+use Rattle.prefixes.specs.declared.Prefix.{Prefix}
 
 -- the prefix's kind, letter and names, then what stands behind them
 abbrev pub figure_numbers : Figures → List ℕ → List ℕ
@@ -23,27 +20,27 @@ prefix_numbers a = number_of a.reply ∷ figure_numbers (parsed_figures a.prefix
 
 -- "There are five kinds; Prefix carries which of the six kinds it is, with its letter or names."
 abbrev pub component_number : Component → ℕ
-component_number (Prefix p) = 1
+component_number (WithPrefix p) = 1
 component_number RootDir = 2
 component_number CurDir = 3
 component_number ParentDir = 4
 component_number Normal = 5
 
-abbrev pub held_prefix : Component → Parsed
-held_prefix (Prefix p) = Has p
-held_prefix RootDir = Without
-held_prefix CurDir = Without
-held_prefix ParentDir = Without
-held_prefix Normal = Without
+abbrev pub held_prefix : Component → Option Prefix
+held_prefix (WithPrefix p) = Some p
+held_prefix RootDir = None
+held_prefix CurDir = None
+held_prefix ParentDir = None
+held_prefix Normal = None
 
 -- 0, and no prefix, where a step took nothing
-abbrev pub taken_number : Taken → ℕ
-taken_number Nothing = 0
-taken_number (Is c) = component_number c
+abbrev pub taken_number : Option Component → ℕ
+taken_number None = 0
+taken_number (Some c) = component_number c
 
-abbrev pub taken_prefix : Taken → Parsed
-taken_prefix Nothing = Without
-taken_prefix (Is c) = held_prefix c
+abbrev pub taken_prefix : Option Component → Option Prefix
+taken_prefix None = None
+taken_prefix (Some c) = held_prefix c
 
 -- the component, its extent, and the cursor handed back
 unfoldable pub step_numbers : Stepped → List ℕ

@@ -1,37 +1,24 @@
 // The answers of the public calls in numbers, in the order of docs/PROTOCOL.md: the reply's number is returned, the others are put into
 // an array. The program `ask`, the firmware's exports and those for tests say them by these functions alone.
+// One function an answer: their rows differ in length and in what stands in them, so a trait for the four would be longer than they are.
 #![tactic(auto)]
 
 ghost use Rattle.std.specs.Prelude.{◌≡◌, ◌∷◌, length};
-ghost use Rattle.numbers.specs.Numbers.{prefix_numbers, held_prefix, component_number, taken_prefix, taken_number, step_numbers, view_numbers, verdict_numbers};
+ghost use Rattle.numbers.specs.Numbers.{prefix_numbers, component_number, taken_prefix, taken_number, step_numbers, view_numbers, verdict_numbers};
 
 use answers::{Verdict, View};
 use parts::Component;
-use paths::{Prefixed, Stepped, Taken};
-use prefixes::Parsed;
+use paths::{Prefixed, Stepped};
+use prefixes::Prefix;
 
+#[tactic(auto, unfolding(crate::specs::Numbers::prefix_numbers))]
 pub fn put_prefix(a: Prefixed, answer: &mut [usize; 7]) -> usize
     ensures answer_after { result ∷ answer.new ≡ prefix_numbers a }
     ensures answer_len { length answer.new ≡ 7 }
 {
-    let reply = a.reply;
-    let p = a.prefix;
-    let f = prefixes::figures_of(p);
+    let f = prefixes::figures_of(a.prefix);
     *answer = [f.kind, f.letter, f.start1, f.len1, f.start2, f.len2, a.len];
-    answers::number(reply)
-}
-
-// The prefix that a component holds, if it holds one.
-fn held_prefix(c: Component) -> Parsed
-    ensures { result ≡ held_prefix c }
-{
-    match c {
-        Component::Prefix(p) => Parsed::Is(p),
-        Component::RootDir => Parsed::Nothing,
-        Component::CurDir => Parsed::Nothing,
-        Component::ParentDir => Parsed::Nothing,
-        Component::Normal => Parsed::Nothing,
-    }
+    usize::from(a.reply)
 }
 
 fn component_number(c: Component) -> usize
@@ -46,35 +33,34 @@ fn component_number(c: Component) -> usize
     }
 }
 
-fn taken_prefix(t: Taken) -> Parsed
+// The prefix that a step took, if it took one.
+fn taken_prefix(t: Option<Component>) -> Option<Prefix>
     ensures { result ≡ taken_prefix t }
 {
     match t {
-        Taken::Nothing => Parsed::Nothing,
-        Taken::Is(c) => held_prefix(c),
+        Some(Component::Prefix(p)) => Some(p),
+        _ => None,
     }
 }
 
-fn taken_number(t: Taken) -> usize
+fn taken_number(t: Option<Component>) -> usize
     ensures { result ≡ taken_number t }
 {
     match t {
-        Taken::Nothing => 0,
-        Taken::Is(c) => component_number(c),
+        None => 0,
+        Some(c) => component_number(c),
     }
 }
 
+#[tactic(auto, unfolding(crate::specs::Numbers::step_numbers))]
 pub fn put_step(a: Stepped, answer: &mut [usize; 12]) -> usize
     ensures answer_after { result ∷ answer.new ≡ step_numbers a }
     ensures answer_len { length answer.new ≡ 12 }
 {
-    let reply = a.reply;
-    let t = a.component;
-    let p = taken_prefix(t);
-    let f = prefixes::figures_of(p);
+    let f = prefixes::figures_of(taken_prefix(a.component));
     let c = a.cursor;
     *answer = [
-        taken_number(t),
+        taken_number(a.component),
         f.kind,
         f.letter,
         f.start1,
@@ -87,23 +73,23 @@ pub fn put_step(a: Stepped, answer: &mut [usize; 12]) -> usize
         c.front,
         c.back,
     ];
-    answers::number(reply)
+    usize::from(a.reply)
 }
 
+#[tactic(auto, unfolding(crate::specs::Numbers::view_numbers))]
 pub fn put_view(a: View, answer: &mut [usize; 2]) -> usize
     ensures answer_after { result ∷ answer.new ≡ view_numbers a }
     ensures answer_len { length answer.new ≡ 2 }
 {
-    let reply = a.reply;
     *answer = [a.start, a.len];
-    answers::number(reply)
+    usize::from(a.reply)
 }
 
+#[tactic(auto, unfolding(crate::specs::Numbers::verdict_numbers))]
 pub fn put_verdict(a: Verdict, answer: &mut [usize; 1]) -> usize
     ensures answer_after { result ∷ answer.new ≡ verdict_numbers a }
     ensures answer_len { length answer.new ≡ 1 }
 {
-    let reply = a.reply;
     *answer = [a.value];
-    answers::number(reply)
+    usize::from(a.reply)
 }

@@ -1,16 +1,20 @@
 -- Laws of the byte classes, as a match on a byte asks them, of the fold that tells a letter, and of where a segment ends.
-use Rattle.std.proofs.Common.{arith, add-one, drop_of_length-le, sym, ◌∙◌}
-use Prim.Native.Nat.{ℕ, zero, suc, ◌+◌, ◌<◌, ◌≤◌}
-use Rattle.std.specs.Prelude.{List, [], ◌∷◌, Bool, true, false, cond, eqb, leb, ltb, length, get_or, drop, ◌≡◌, refl}
+use Rattle.std.proofs.Common.{arith, add-one, drop_of_length-le, sym, ◌∙◌, length-drop, drop-drop, length-take-le, take_all, mul_comm}
+use Prim.Native.Nat.{ℕ, zero, suc, ◌+◌, ◌*◌, ◌-◌, ◌/◌, ◌<◌, ◌≤◌}
+use Rattle.std.specs.Prelude.{List, [], ◌∷◌, Bool, true, false, cond, not, ◌||◌, leb, ltb, length, get_or, take, drop, ◌≡◌, refl, Option, Some, None}
+use Rattle.std.specs.List.{list_any, fold, position_or_len, position}
+use Rattle.std.specs.Option.{unwrap_or}
+use Rattle.std.proofs.lemmas.List.Sums.{prefix_len-le-length}
+use Rattle.std.specs.Simd.{first_chunks}
 use Rattle.std.proofs.lemmas.Bool.{false≢true}
+use Rattle.std.proofs.lemmas.Option.{cond_some, none-some}
 use Rattle.std.specs.Int.Bits.{bit_and}
 use Rattle.std.proofs.Math.Seq.{drop-cons}
-use borrow.Author.Tests.{eq-eqb, ne_eqb, le-leb, lt-leb, ltb-true, ltb-false}
-use Rattle.octets.specs.Class.{class_of, is_letter, is_sep, seps_of}
+use borrow.Author.Tests.{ne_eqb, le-leb, lt-leb, ltb-true, ltb-false}
+use Rattle.octets.specs.Class.{class_of, is_letter, seps_of}
 use Rattle.octets.specs.Segment.{lead, end_of, EndAt}
-use Rattle.octets.specs.Leaves.{low_mark, high_mark, marked, ClearAt, ClearTo, ScanAt}
-use Rattle.octets.specs.declared.Seps.{Seps}
-use Rattle.octets.specs.declared.Seps.TheVariants.{Unix, Windows, Verbatim}
+use Rattle.octets.specs.Leaves.{Clear}
+use Rattle.octets.specs.declared.Seps.TheVariants.{Unix, Windows}
 use Rattle.octets.specs.declared.Class.TheVariants.{Slash, Backslash, Dot, Colon, Letter, Other}
 
 module _ (b : ℕ) where
@@ -112,17 +116,20 @@ module _ (b m : ℕ) (h : b < 256) where
   pub folded_high : 90 < bit_and b m → folds m ≡ true → false ≡ is_letter b
   folded_high l t = simp (folded t, le-leb 65 (bit_and b m) (omega arith), lt-leb (bit_and b m) 90 l)
 
+-- the mask that the code has: `refl` looks at all 256 bytes
+pub mask_folds : folds 223 ≡ true
+unfolding folds
+mask_folds = refl
+
+pub ruleset letters = (folded_in, folded_low, folded_high, mask_folds)
+
 pub lead_short : (sep : ℕ → Bool) (xs : List ℕ) → length (lead sep xs) ≤ length xs
 unfolding lead
 lead_short sep [] = omega arith
 lead_short sep (x ∷ xs) = split (sep x) (λ e. rw e (omega arith)) (λ e. rw e (omega (arith, lead_short sep xs)))
 
 module _ (sep : ℕ → Bool) (s : List ℕ) (i : ℕ) where
-  -- the end of a segment: at a separator, past another byte, and past the end
-  pub end_here : i < length s → sep (get_or s i 0) ≡ true → end_of sep s i ≡ i
-  unfolding end_of lead
-  end_here h e = rw (drop-cons s i 0 h, e) (omega arith)
-
+  -- the end of a segment: past a byte that does not separate, and past the end
   pub end_more : i < length s → sep (get_or s i 0) ≡ false → end_of sep s i ≡ end_of sep s (i + 1)
   unfolding end_of lead
   end_more h e = rw (add-one, drop-cons s i 0 h, e) (omega arith)
@@ -131,85 +138,109 @@ module _ (sep : ℕ → Bool) (s : List ℕ) (i : ℕ) where
   unfolding end_of lead
   end_out h = rw (drop_of_length-le s h) (omega arith)
 
--- `is_mark`
-module _ (a b x : ℕ) where
-  pub mark_low : x ≡ a → true ≡ marked a b x
-  unfolding marked
-  mark_low e = simp (eq-eqb x a e)
+-- `has_sep`
+abbrev pub hits : (ℕ → Bool) → List ℕ → Bool
+hits sep block = fold (λ hit b. hit || sep b) false block
 
-  pub mark_high : (x ≡ a → ⊥) → eqb x b ≡ marked a b x
-  unfolding marked
-  mark_high h = simp (ne_eqb x a h)
+-- a list, where none of its first n bytes separates, or where the first that does is looked for
+module _ (sep : ℕ → Bool) where
+  hits_any : (h : Bool) (xs : List ℕ) → fold (λ hit b. hit || sep b) h xs ≡ h || list_any sep xs
+  hits_any true [] = refl
+  hits_any false [] = refl
+  hits_any true (x ∷ xs) = hits_any true xs
+  hits_any false (x ∷ xs) = hits_any (sep x) xs
 
-pub ruleset marks = (mark_low, mark_high)
+  lead_is : (xs : List ℕ) → length (lead sep xs) ≡ position_or_len sep xs
+  unfolding lead
+  lead_is [] = refl
+  lead_is (x ∷ xs) = split (sep x) (λ e. rw e refl) (λ e. rw e (omega (arith, lead_is xs)))
 
--- a set of separators is its two marks
-marks_are : (k : Seps) (x : ℕ) → marked (low_mark k) (high_mark k) x ≡ is_sep k x
-unfolding marked
-marks_are Unix x = split (eqb x 47) (λ e. rw e) (λ e. rw e)
-marks_are Windows x = refl
-marks_are Verbatim x = split (eqb x 92) (λ e. rw e) (λ e. rw e)
+  lead_in : (n : ℕ) (xs : List ℕ) → position_or_len sep (take n xs) < length (take n xs) → length (lead sep xs) ≡ position_or_len sep (take n xs)
+  unfolding lead
+  lead_in zero xs h = absurd (omega arith)
+  lead_in (suc n) [] h = absurd (omega arith)
+  lead_in (suc n) (x ∷ xs) h = split (sep x)
+      (λ e. rw e refl)
+      (λ e. let k : 1 + position_or_len sep (take n xs) < length (x ∷ take n xs) = rw e at h in rw e (omega (arith, lead_in n xs (omega arith))))
 
-lead_same : (f g : ℕ → Bool) → ((x : ℕ) → f x ≡ g x) → (xs : List ℕ) → lead f xs ≡ lead g xs
-unfolding lead
-lead_same f g h [] = refl
-lead_same f g h (x ∷ xs) = rw (h x, lead_same f g h xs)
+  lead_past : (n : ℕ) (xs : List ℕ) → n ≤ length xs → list_any sep (take n xs) ≡ false → length (lead sep xs) ≡ n + length (lead sep (drop n xs))
+  unfolding lead
+  lead_past zero xs h e = omega arith
+  lead_past (suc n) [] h e = absurd (omega arith)
+  lead_past (suc n) (x ∷ xs) h e = split (sep x)
+      (λ f. absurd (false≢true (sym e ∙ rw f refl)))
+      (λ f. rw f (omega (arith, lead_past n xs (omega arith) (rw f at e))))
 
-same_end : (k : Seps) (s : List ℕ) (i : ℕ) → end_of (marked (low_mark k) (high_mark k)) s i ≡ end_of (is_sep k) s i
-unfolding end_of
-same_end k s i = rw (lead_same (marked (low_mark k) (high_mark k)) (is_sep k) (marks_are k) (drop i s))
+  none_any : (xs : List ℕ) → length xs ≤ position_or_len sep xs → list_any sep xs ≡ false
+  none_any [] h = refl
+  none_any (x ∷ xs) h = split (sep x)
+      (λ e. let k : length (x ∷ xs) ≤ 0 = rw e at h in absurd (omega arith))
+      (λ e. let k : length (x ∷ xs) ≤ 1 + position_or_len sep xs = rw e at h in rw e (none_any xs (omega arith)))
 
--- `is_clear`
-module _ (sep : ℕ → Bool) (s : List ℕ) (i : ℕ) where
-  pub clear_start : (c : Bool) → ClearAt sep s i i c
-  clear_start c = record { on = λ _. refl }
+-- where `position` finds nothing
+cond_none : (n l : ℕ) → cond (ltb n l) (Some n) None ≡ None → l ≤ n
+cond_none n l e = split (ltb n l) (λ f. absurd (none-some n (sym (rw f at e)))) (λ f. ltb-false n l f)
 
-  pub clear_next : (j n : ℕ) (c h r : Bool) → ClearAt sep s i j c → j < n → n ≤ length s → h ≡ sep (get_or s j 0) → r ≡ cond h false c → ClearAt sep s i (j + 1) r
-  clear_next j n c h r d l m t e =
-      record {
-        on =
-            λ y. split h
-            (λ f. absurd (false≢true (sym (e ∙ rw f) ∙ y)))
-            (λ f. d.on (sym (e ∙ rw f) ∙ y) ∙ end_more sep s j (omega arith) (sym t ∙ f));
-      }
+-- what `position` finds, or else the length
+position_or : {X : Type 0} (p : X → Bool) (xs : List X) → unwrap_or (position p xs) (length xs) ≡ position_or_len p xs
+position_or p xs = split (ltb (position_or_len p xs) (length xs))
+    (λ e. rw e refl)
+    (λ e. rw e (omega (arith, ltb-false _ _ e, prefix_len-le-length (λ x. not (p x)) xs)))
 
-pub clear_end : (k : Seps) (s : List ℕ) (i j n a b : ℕ) (c : Bool) → ClearAt (marked a b) s i j c → a ≡ low_mark k → b ≡ high_mark k → n ≤ j → j ≤ n → ClearAt (is_sep k) s i n c
-clear_end k s i j n a b c d e f l m =
-    let g : j ≡ n = omega arith in
-    let w : ClearAt (marked (low_mark k) (high_mark k)) s i n c = rw (← e, ← f, ← g) d in
-    record { on = λ y. sym (same_end k s i) ∙ w.on y ∙ same_end k s n }
+-- `skip_clear`: the first n blocks of xs are looked through
+module _ (sep : ℕ → Bool) where
+  blocks_clear : (n : ℕ) (xs : List ℕ) → n * 16 ≤ length xs → Clear sep xs (position_or_len (hits sep) (first_chunks 16 n xs) * 16)
+  blocks_clear zero xs h = record { within = omega arith; past = omega arith }
+  blocks_clear (suc n) xs h = split (hits sep (take 16 xs))
+      (λ e. rw e (record { within = omega arith; past = omega arith }))
+      (λ e. rw e (next _ xs h e (blocks_clear n (drop 16 xs) (omega (arith, length-drop 16 xs)))))
+    where
+      next : (m : ℕ) (xs : List ℕ) → suc n * 16 ≤ length xs → hits sep (take 16 xs) ≡ false → Clear sep (drop 16 xs) (m * 16) → Clear sep xs ((1 + m) * 16)
+      next m xs h e k =
+          let f : list_any sep (take 16 xs) ≡ false = sym (hits_any sep false (take 16 xs)) ∙ e in
+          let a : length (lead sep xs) ≡ 16 + length (lead sep (drop 16 xs)) = lead_past sep 16 xs (omega arith) f in
+          let d : drop (m * 16) (drop 16 xs) ≡ drop (16 + m * 16) xs = drop-drop (m * 16) 16 xs in
+          let i : (1 + m) * 16 ≡ 16 + m * 16 = omega arith in
+          record { within = omega (arith, k.within, length-drop 16 xs); past = rw i (a ∙ omega (arith, rw d at k.past)) }
 
-pub ruleset clears = (clear_start, clear_next, clear_end)
+-- `skip_clear`, `far_sep`, `next_sep`
+module _ (sep : ℕ → Bool) (s : List ℕ) where
+  pub skip_is : (o : Option ℕ) (n : ℕ) (blocks : List (List ℕ)) → blocks ≡ first_chunks 16 (length s / 16) s → o ≡ position (hits sep) blocks → n ≡ unwrap_or o (length blocks) → Clear sep s (16 * n)
+  skip_is o n blocks eb eo en =
+      let f : n ≡ position_or_len (hits sep) (first_chunks 16 (length s / 16) s) = en ∙ rw (eo, eb) (position_or (hits sep) (first_chunks 16 (length s / 16) s)) in
+      rw (mul_comm 16 n, f) (blocks_clear sep (length s / 16) s (omega arith))
 
--- `skip_clear`, `scan`, `far_sep`, `next_sep`
-module _ (sep : ℕ → Bool) (s : List ℕ) (at : ℕ) where
-  pub skip_start : at ≤ length s → ClearTo sep s at at
-  skip_start h = record { low = omega arith; high = h; same = refl }
+  -- the segment at i, in the rest of s
+  rest : (i : ℕ) → take (length s - i) (drop i s) ≡ drop i s
+  rest i = take_all (length s - i) (drop i s) (omega (arith, length-drop i s))
 
-  pub skip_on : (i : ℕ) (c : Bool) → ClearTo sep s at i → ClearAt sep s i (i + 16) c → c ≡ true → i + 16 ≤ length s → ClearTo sep s at (i + 16)
-  skip_on i c h d y m = record { low = omega (arith, h.low); high = m; same = h.same ∙ d.on y }
+  module _ (at : ℕ) where
+    pub far_is : (n r : ℕ) (o : Option ℕ) → at ≤ length s → Clear sep (take (length s - at) (drop at s)) n → o ≡ position sep (take (length s - (at + n)) (drop (at + n) s)) → r ≡ unwrap_or o (length s - (at + n)) → EndAt sep s at (at + n + r)
+    unfolding end_of
+    far_is n r o h d eo er =
+        let k : Clear sep (drop at s) n = rw (rest at) at d in
+        let p : r ≡ position_or_len sep (drop (at + n) s) = er ∙ rw (eo, rest (at + n), ← length-drop (at + n) s) (position_or sep (drop (at + n) s)) in
+        let e : r ≡ length (lead sep (drop (at + n) s)) = p ∙ sym (lead_is sep (drop (at + n) s)) in
+        let f : length (lead sep (drop at s)) ≡ n + length (lead sep (drop (at + n) s)) = rw (drop-drop n at s) at k.past in
+        record { is = omega arith; low = omega arith; high = omega (arith, k.within, length-drop at s, length-drop (at + n) s, lead_short sep (drop (at + n) s)) }
 
-  module _ (i end : ℕ) (e : end_of sep s at ≡ end_of sep s i) (m : end ≤ length s) where
-    module _ (b : Bool) (t : b ≡ sep (get_or s i 0)) (h : i < end) where
-      pub scan_here : b ≡ true → at ≤ i → ScanAt sep s at end i
-      scan_here y l = record { low = l; high = omega arith; same = e; stop = λ _. end_here sep s i (omega arith) (sym t ∙ y) }
+    module _ (near : ℕ) (o : Option ℕ) (h : at ≤ near) (l : near ≤ length s) (eo : o ≡ position sep (take (near - at) (drop at s))) where
+      long : length (take (near - at) (drop at s)) ≡ near - at
+      long = length-take-le (near - at) (drop at s) (omega (arith, length-drop at s))
 
-      pub scan_more : b ≡ false → end_of sep s at ≡ end_of sep s (i + 1)
-      scan_more n = e ∙ end_more sep s i (omega arith) (sym t ∙ n)
+      pub near_some : (i : ℕ) → o ≡ Some i → EndAt sep s at (at + i)
+      unfolding end_of
+      near_some i e =
+          let c = cond_some (ltb (position_or_len sep (take (near - at) (drop at s))) (length (take (near - at) (drop at s)))) (position_or_len sep (take (near - at) (drop at s))) i (sym eo ∙ e) in
+          let k : position_or_len sep (take (near - at) (drop at s)) < length (take (near - at) (drop at s)) = ltb-true _ _ c.0 in
+          let f : length (lead sep (drop at s)) ≡ i = lead_in sep (near - at) (drop at s) k ∙ c.1 in
+          record { is = omega arith; low = omega arith; high = omega (arith, c.1, long) }
 
-    pub scan_none : at ≤ i → i ≤ end → end ≤ i → ScanAt sep s at end i
-    scan_none l k h = record { low = l; high = k; same = e; stop = λ f. absurd (omega arith) }
-
-  pub far_is : (i r : ℕ) → ClearTo sep s at i → ScanAt sep s i (length s) r → EndAt sep s at r
-  far_is i r h d =
-      let g : end_of sep s r ≡ r = split (ltb r (length s)) (λ e. d.stop (ltb-true r (length s) e)) (λ e. end_out sep s r (ltb-false r (length s) e)) in
-      record { is = sym (h.same ∙ d.same ∙ g); low = omega (arith, h.low, d.low); high = d.high }
-
-  module _ (i e : ℕ) (d : ScanAt sep s at e i) where
-    pub near_is : i < e → e ≤ length s → EndAt sep s at i
-    near_is h m = record { is = sym (d.same ∙ d.stop h); low = d.low; high = omega arith }
-
-    pub near_far : (r : ℕ) → EndAt sep s i r → EndAt sep s at r
-    near_far r h = record { is = h.is ∙ sym d.same; low = omega (arith, d.low, h.low); high = h.high }
-
-pub ruleset ends = (skip_start, skip_on, scan_here, scan_more, scan_none, far_is, near_is, near_far)
+      pub near_none : (r : ℕ) → o ≡ None → EndAt sep s near r → EndAt sep s at r
+      unfolding end_of
+      near_none r e d =
+          let k : length (take (near - at) (drop at s)) ≤ position_or_len sep (take (near - at) (drop at s)) = cond_none _ _ (sym eo ∙ e) in
+          let f : length (lead sep (drop at s)) ≡ near - at + length (lead sep (drop (near - at) (drop at s))) = lead_past sep (near - at) (drop at s) (omega (arith, length-drop at s)) (none_any sep (take (near - at) (drop at s)) k) in
+          let w : at + (near - at) ≡ near = omega arith in
+          let g : length (lead sep (drop at s)) ≡ near - at + length (lead sep (drop near s)) = rw (drop-drop (near - at) at s, w) at f in
+          record { is = omega (arith, d.is); low = omega (arith, d.low); high = d.high }

@@ -1,15 +1,16 @@
 // Bytes: the class of each, the three sets of separators, where a segment ends, and the longest path that is taken.
-#![tactic(auto)]
+#![tactic(auto, using(crate::specs::Laws::classes, crate::specs::Laws::letters, crate::specs::Laws::far_is))]
 
-ghost use Rattle.std.specs.Prelude.{◌≡◌, cond, false, ◌+◌, ◌≤◌, length};
+ghost use Rattle.std.specs.Prelude.{◌≡◌, ◌≤◌, ◌||◌, false, length};
+ghost use Rattle.std.specs.List.{fold, position};
 ghost use Rattle.octets.specs.Class.{class_of, is_letter, is_sep, seps_of};
 ghost use Rattle.octets.specs.Segment.{EndAt};
-ghost use Rattle.octets.specs.Leaves.{low_mark, high_mark, marked, ClearAt, ClearTo, ScanAt};
+ghost use Rattle.octets.specs.Leaves.{Clear};
 
 // The longest input that is taken; `limit` of specs/Class.antt is its name in every definition.
 pub const LIMIT: usize = 4096;
 
-#[derive(Clone, Copy)]
+#[derive(Clone, Copy, PartialEq, Eq)]
 pub enum Class {
     Slash,
     Backslash,
@@ -20,7 +21,7 @@ pub enum Class {
 }
 
 // The sets of separators: `/`; `/` and `\`; `\` alone, inside a verbatim prefix's path.
-#[derive(Clone, Copy)]
+#[derive(Clone, Copy, PartialEq, Eq)]
 pub enum Seps {
     Unix,
     Windows,
@@ -45,10 +46,7 @@ pub fn class_of(b: u8) -> Class
 pub fn is_letter(b: u8) -> bool
     ensures { result ≡ is_letter b }
 {
-    match b & 223 {
-        65..=90 => true,
-        _ => false,
-    }
+    matches!(b & 223, 65..=90)
 }
 
 pub fn is_sep(k: Seps, b: u8) -> bool
@@ -56,110 +54,46 @@ pub fn is_sep(k: Seps, b: u8) -> bool
 {
     match k {
         Seps::Unix => b == 47,
-        Seps::Windows => { if b == 47 { true } else { b == 92 } }
+        Seps::Windows => b == 47 || b == 92,
         Seps::Verbatim => b == 92,
     }
 }
 
-// The one place where a mode becomes a set of separators.
+// The one place where a mode becomes a set of separators. Not a From<usize>: only 0 and 1 are modes, and the calls refuse all others.
 pub fn seps_of(mode: usize) -> Seps
     ensures { result ≡ seps_of mode }
 {
-    if mode == 0 {
-        return Seps::Unix;
-    }
-    Seps::Windows
-}
-
-// The two bytes that separate; the same one twice where there is one.
-fn low_mark(k: Seps) -> u8
-    ensures { result ≡ low_mark k }
-{
-    match k {
-        Seps::Unix => 47,
-        Seps::Windows => 47,
-        Seps::Verbatim => 92,
+    match mode {
+        0 => Seps::Unix,
+        _ => Seps::Windows,
     }
 }
 
-fn high_mark(k: Seps) -> u8
-    ensures { result ≡ high_mark k }
+// Whether one of 16 bytes separates. `fold` reads them all, so that a compiler can test them at once: with `any`, which stops at the
+// first, a walk over long names takes 1.4 to 3.1 times as long.
+fn has_sep(k: Seps, block: &[u8; 16]) -> bool
+    ensures { result ≡ fold (λ hit b. hit || is_sep k b) false block.now }
 {
-    match k {
-        Seps::Unix => 47,
-        Seps::Windows => 92,
-        Seps::Verbatim => 92,
-    }
+    block.iter().fold(false, |hit, b| hit | is_sep(k, *b))
 }
 
-// Whether x is one of two bytes.
-fn is_mark(a: u8, b: u8, x: u8) -> bool
-    ensures { result ≡ marked a b x }
+// How many bytes the blocks of 16 have that come before the first with a separator in it.
+fn skip_clear(k: Seps, s: &[u8]) -> usize
+    ensures { Clear (is_sep k) s.now result }
 {
-    if x == a {
-        return true;
-    }
-    x == b
+    let blocks = s.as_chunks::<16>().0;
+    let n = blocks
+        .iter()
+        .position(|b| has_sep(k, b))
+        .unwrap_or(blocks.len());
+    16 * n
 }
 
-// A test that holds for as long as nothing is hit.
-fn still(clear: bool, hit: bool) -> bool
-    ensures { result ≡ cond hit false clear }
+// The first separator.
+fn scan(k: Seps, s: &[u8]) -> Option<usize>
+    ensures { result ≡ position (is_sep k) s.now }
 {
-    if hit {
-        return false;
-    }
-    clear
-}
-
-// Whether none of the 16 bytes from i on separates. It reads them all, whatever the first are: so a compiler can test
-// them at once.
-fn is_clear(k: Seps, s: &[u8], i: usize) -> bool
-    requires { i + 16 ≤ length s.now }
-    ensures { ClearAt (is_sep k) s.now i (i + 16) result }
-{
-    let a = low_mark(k);
-    let b = high_mark(k);
-    let e = i + 16;
-    let mut clear = true;
-    let mut j = i;
-    while j < e {
-        let hit = is_mark(a, b, s[j]);
-        clear = still(clear, hit);
-        j += 1;
-    }
-    clear
-}
-
-// Past blocks of 16 bytes without a separator.
-fn skip_clear(k: Seps, s: &[u8], at: usize) -> usize
-    requires { at ≤ length s.now }
-    ensures { ClearTo (is_sep k) s.now at result }
-{
-    let mut i = at;
-    while i + 16 <= s.len() {
-        if is_clear(k, s, i) {
-            i += 16;
-        } else {
-            return i;
-        }
-    }
-    i
-}
-
-// The first separator from `at` on, if one stands before `end`; else `end`.
-fn scan(k: Seps, s: &[u8], at: usize, end: usize) -> usize
-    requires { (at ≤ end) × (end ≤ length s.now) }
-    ensures { ScanAt (is_sep k) s.now at end result }
-{
-    let mut i = at;
-    while i < end {
-        if is_sep(k, s[i]) {
-            return i;
-        }
-        i += 1;
-    }
-    i
+    s.iter().position(|b| is_sep(k, *b))
 }
 
 // Where the segment at `at` ends, looked for by blocks: for long names.
@@ -167,30 +101,19 @@ pub fn far_sep(k: Seps, s: &[u8], at: usize) -> usize
     requires { at ≤ length s.now }
     ensures { EndAt (is_sep k) s.now at result }
 {
-    let i = skip_clear(k, s, at);
-    scan(k, s, i, s.len())
+    let i = at + skip_clear(k, &s[at..]);
+    i + scan(k, &s[i..]).unwrap_or(s.len() - i)
 }
 
-// How far a name is looked through byte by byte, of n bytes.
-fn near(at: usize, n: usize) -> usize
-    requires { at ≤ n }
-    ensures { (at ≤ result) × (result ≤ n) }
-{
-    if n - at < 16 {
-        return n;
-    }
-    at + 16
-}
-
-// Where the segment at `at` ends: the first separator at or after it, or the path's end.
+// Where the segment at `at` ends: the first separator at or after it, or the path's end. The first 16 bytes are looked through one by
+// one: by blocks alone, a walk over short names takes up to 1.4 times as long; by bytes alone, one over long names 1.6 to 3 times.
 pub fn next_sep(k: Seps, s: &[u8], at: usize) -> usize
     requires { at ≤ length s.now }
     ensures { EndAt (is_sep k) s.now at result }
 {
-    let e = near(at, s.len());
-    let i = scan(k, s, at, e);
-    if i < e {
-        return i;
+    let near = s.len().min(at + 16);
+    match scan(k, &s[at..near]) {
+        Some(i) => at + i,
+        None => far_sep(k, s, near),
     }
-    far_sep(k, s, i)
 }

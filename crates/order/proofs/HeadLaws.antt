@@ -1,6 +1,6 @@
 -- How heads meet, and what follows for two whole lists: an element of a head comes before every part that can stand in its
 -- place in the other path.
-use Rattle.std.specs.Prelude.{ℕ, suc, ◌<◌, ◌≤◌, ◌≡◌, Bool, true, false, length, drop, eqb}
+use Rattle.std.specs.Prelude.{ℕ, suc, ◌<◌, ◌≤◌, ◌≡◌, Bool, true, false, length, drop, eqb, Option, Some, None}
 use Rattle.std.proofs.Common.{arith, sym, ◌∙◌, ne_eqb, eqb-true}
 use Rattle.std.proofs.Math.Path.{refl}
 use mathlib.Core.List.{List, [], ◌∷◌, ◌++◌, map-append}
@@ -11,13 +11,9 @@ use Rattle.octets.specs.Segment.{lead}
 use Rattle.octets.specs.declared.Seps.{Seps}
 use Rattle.prefixes.specs.declared.Prefix.{Prefix}
 use Rattle.prefixes.specs.declared.Prefix.TheVariants.{Verbatim, VerbatimUnc, VerbatimDisk, DeviceNs, Unc, Disk}
-use Rattle.prefixes.specs.declared.Parsed.{Parsed}
-use Rattle.prefixes.specs.declared.Parsed.TheVariants.{Nothing, Is}
 use Rattle.prefixes.specs.Prefix.{prefix_in, end_of_prefix}
 use Rattle.parts.specs.declared.Element.{Element}
 use Rattle.parts.specs.declared.Kind.TheVariants.{Dot as LoneDot, DotDot, Name}
-use Rattle.parts.specs.declared.Sort.{Sort}
-use Rattle.parts.specs.declared.Sort.TheVariants.{Skip, Is as Sorted}
 use Rattle.parts.specs.Body.{dots, sort_by, sort_of, put, rest, from}
 use Rattle.components.specs.declared.Dir.{Dir}
 use Rattle.components.specs.declared.Dir.TheVariants.{Bare, Root, Implied, Dot}
@@ -25,14 +21,15 @@ use Rattle.components.specs.declared.Start.{Start}
 use Rattle.components.specs.List.{sep_at, dot_at, prefix_dir, dir_of, start_of, prefix_part, dir_part, head_list, body_list, whole_of}
 use Rattle.components.specs.Leaves.{OpenAt}
 use Rattle.components.specs.Laws.{sep_in, dot_sep, whole_list}
-use Rattle.order.specs.declared.Ordering.{Ordering}
-use Rattle.order.specs.declared.Ordering.TheVariants.{Less, Greater}
+use Rattle.std.specs.declared.cmp.Ordering.{Ordering}
+use Rattle.std.specs.declared.cmp.Ordering.TheVariants.{Less, Greater}
 use Rattle.order.specs.declared.Heads.{Heads}
 use Rattle.order.specs.declared.Heads.TheVariants.{Same, Apart, First, Second}
 use Rattle.order.specs.Values.{Value, valued, value_of, values_in, values_of}
 use Rattle.order.specs.Order.{lexical, cmp_value, cmp_values}
 use Rattle.order.proofs.Ordered.{each, itself, value_ordered, nat_less, nat_more}
 use Rattle.order.specs.Leaves.{lead_kind, prefix_values, dir_rank, dir_values, head_values, body_values, is_nil, meet, order_of}
+use Rattle.parts.specs.declared.Kind.{Kind}
 
 -- ---- the values of a whole list
 pub values_append : (s : List ℕ) (l m : List Element) → values_in s (l ++ m) ≡ values_in s l ++ values_in s m
@@ -44,12 +41,12 @@ unfolding values_of head_values body_values whole_of body_list
 values_whole k s g o = rw (← whole_list k s g o) (values_append s (head_list g) (body_list g s))
 
 -- ---- kinds: of a head at most 3, of a body at least 3
-put_kind : (s : List ℕ) (q : Sort) (i n : ℕ) (l : List Element) → 3 ≤ lead_kind (values_in s l) → 3 ≤ lead_kind (values_in s (put q i n l))
+put_kind : (s : List ℕ) (q : Option Kind) (i n : ℕ) (l : List Element) → 3 ≤ lead_kind (values_in s l) → 3 ≤ lead_kind (values_in s (put q i n l))
 unfolding values_in
-put_kind s Skip i n l h = h
-put_kind s (Sorted LoneDot) i n l h = omega arith
-put_kind s (Sorted DotDot) i n l h = omega arith
-put_kind s (Sorted Name) i n l h = omega arith
+put_kind s None i n l h = h
+put_kind s (Some LoneDot) i n l h = omega arith
+put_kind s (Some DotDot) i n l h = omega arith
+put_kind s (Some Name) i n l h = omega arith
 
 rest_kind : (sep : ℕ → Bool) (v : Bool) (s : List ℕ) (i : ℕ) (xs : List ℕ) → 3 ≤ lead_kind (values_in s (rest sep v i xs))
 unfolding rest values_in
@@ -100,20 +97,20 @@ prefix_no_dot (Unc n) e = let z : ◌≡◌ {A = ℕ} 0 1 = cc in omega arith
 prefix_no_dot (Disk d) e = let z : ◌≡◌ {A = ℕ} 0 1 = cc in omega arith
 
 -- a dot stands where there is no prefix
-dot_bare : (k : Seps) (p : Parsed) (s : List ℕ) (e : ℕ) → dir_of k p s e ≡ Dot → p ≡ Nothing
+dot_bare : (k : Seps) (p : Option Prefix) (s : List ℕ) (e : ℕ) → dir_of k p s e ≡ Dot → p ≡ None
 unfolding dir_of
-dot_bare k Nothing s e h = refl
-dot_bare k (Is p) s e h =
+dot_bare k None s e h = refl
+dot_bare k (Some p) s e h =
     split (sep_at k s e)
     (λ f. let d : Root ≡ Dot = rw f at h in let z : ◌≡◌ {A = ℕ} 0 1 = cc in absurd (omega arith))
     (λ f. absurd (prefix_no_dot p (rw f at h)))
 
 -- without a prefix, nothing found behind it means neither a separator nor a dot
-bare_sep : (k : Seps) (s : List ℕ) → dir_of k Nothing s 0 ≡ Bare → sep_at k s 0 ≡ false
+bare_sep : (k : Seps) (s : List ℕ) → dir_of k None s 0 ≡ Bare → sep_at k s 0 ≡ false
 unfolding dir_of
 bare_sep k s h = split (sep_at k s 0) (λ f. let d : Root ≡ Bare = rw f at h in let z : ◌≡◌ {A = ℕ} 0 1 = cc in absurd (omega arith)) (λ f. f)
 
-bare_dot : (k : Seps) (s : List ℕ) → dir_of k Nothing s 0 ≡ Bare → dot_at k s 0 ≡ false
+bare_dot : (k : Seps) (s : List ℕ) → dir_of k None s 0 ≡ Bare → dot_at k s 0 ≡ false
 unfolding dir_of
 bare_dot k s h =
     split (dot_at k s 0)
@@ -121,16 +118,16 @@ bare_dot k s h =
     (λ f. f)
 
 module _ (k : Seps) (s : List ℕ) (g : Start) (o : OpenAt k s g) where
-  pub dot_alone : g.dir ≡ Dot → g.prefix ≡ Nothing
+  pub dot_alone : g.dir ≡ Dot → g.prefix ≡ None
   unfolding start_of
   dot_alone e = rw o.is (dot_bare k (prefix_in k s) s (end_of_prefix (prefix_in k s)) (rw o.is at e))
 
   -- a path with nothing ahead of its body does not start with a lone dot
-  pub open_kind : g.prefix ≡ Nothing → g.dir ≡ Bare → 4 ≤ lead_kind (body_values g.seps s g.at)
+  pub open_kind : g.prefix ≡ None → g.dir ≡ Bare → 4 ≤ lead_kind (body_values g.seps s g.at)
   unfolding start_of
   open_kind e f =
-      let p : prefix_in k s ≡ Nothing = rw o.is at e in
-      let d : dir_of k Nothing s 0 ≡ Bare = rw p at (rw o.is at f) in
+      let p : prefix_in k s ≡ None = rw o.is at e in
+      let d : dir_of k None s 0 ≡ Bare = rw p at (rw o.is at f) in
       rw (o.is, p, d) (lead_kind_lem k s (bare_sep k s d) (bare_dot k s d))
 
 -- ---- lists that meet
@@ -208,10 +205,10 @@ module _ (l m : List Value) where
   meet_second_more w (u ∷ a) (v ∷ b) e z = each (cmp_value u v) (λ x. bad (cc)) (λ x. rw x (meet_second_more w a b (rw x at e) z.1)) (λ x. bad (cc))
 
 -- ---- the values of a head
-prefix_values_lem : (s : List ℕ) (p : Parsed) (e : ℕ) → values_in s (prefix_part p e) ≡ prefix_values s p
+prefix_values_lem : (s : List ℕ) (p : Option Prefix) (e : ℕ) → values_in s (prefix_part p e) ≡ prefix_values s p
 unfolding values_in
-prefix_values_lem s Nothing e = refl
-prefix_values_lem s (Is p) e = refl
+prefix_values_lem s None e = refl
+prefix_values_lem s (Some p) e = refl
 
 pub dir_values_lem : (s : List ℕ) (d : Dir) (e : ℕ) → values_in s (dir_part d e) ≡ dir_values (dir_rank d)
 unfolding values_in dir_values
@@ -225,24 +222,24 @@ unfolding head_values head_list
 head_values_lem s g = values_append s (prefix_part g.prefix g.end) (dir_part g.dir g.end) ∙ rw (prefix_values_lem s g.prefix g.end, dir_values_lem s g.dir g.end)
 
 -- a head of no values
-pub no_head : (s : List ℕ) (p : Parsed) (d : Dir) → prefix_values s p ++ dir_values (dir_rank d) ≡ [] → (p ≡ Nothing) × (d ≡ Bare)
+pub no_head : (s : List ℕ) (p : Option Prefix) (d : Dir) → prefix_values s p ++ dir_values (dir_rank d) ≡ [] → (p ≡ None) × (d ≡ Bare)
 unfolding dir_values
-no_head s Nothing Bare e = (refl, refl)
-no_head s Nothing Root e = bad (cc)
-no_head s Nothing Implied e = bad (cc)
-no_head s Nothing Dot e = bad (cc)
-no_head s (Is p) d e = bad (cc)
+no_head s None Bare e = (refl, refl)
+no_head s None Root e = bad (cc)
+no_head s None Implied e = bad (cc)
+no_head s None Dot e = bad (cc)
+no_head s (Some p) d e = bad (cc)
 
-head_under : (s : List ℕ) (w : Value) (p : Parsed) (d : Dir) → 3 ≤ w.kind → (d ≡ Dot → 4 ≤ w.kind) → Under (prefix_values s p ++ dir_values (dir_rank d)) w
+head_under : (s : List ℕ) (w : Value) (p : Option Prefix) (d : Dir) → 3 ≤ w.kind → (d ≡ Dot → 4 ≤ w.kind) → Under (prefix_values s p ++ dir_values (dir_rank d)) w
 unfolding dir_values Under
-head_under s w Nothing Bare h f = tt
-head_under s w Nothing Root h f = (omega arith, tt)
-head_under s w Nothing Implied h f = (omega arith, tt)
-head_under s w Nothing Dot h f = (omega (arith, f refl), tt)
-head_under s w (Is p) Bare h f = (omega arith, tt)
-head_under s w (Is p) Root h f = (omega arith, (omega arith, tt))
-head_under s w (Is p) Implied h f = (omega arith, (omega arith, tt))
-head_under s w (Is p) Dot h f = (omega arith, (omega (arith, f refl), tt))
+head_under s w None Bare h f = tt
+head_under s w None Root h f = (omega arith, tt)
+head_under s w None Implied h f = (omega arith, tt)
+head_under s w None Dot h f = (omega (arith, f refl), tt)
+head_under s w (Some p) Bare h f = (omega arith, tt)
+head_under s w (Some p) Root h f = (omega arith, (omega arith, tt))
+head_under s w (Some p) Implied h f = (omega arith, (omega arith, tt))
+head_under s w (Some p) Dot h f = (omega arith, (omega (arith, f refl), tt))
 
 one_first : (x : Value) (b : List Value) → meet (x ∷ []) b ≡ First → b ≡ []
 unfolding meet

@@ -1,7 +1,9 @@
 -- Laws of the comparisons: one a way through each function, and what they rest on.
-use Rattle.std.specs.Prelude.{ℕ, suc, ◌+◌, ◌-◌, ◌<◌, ◌≤◌, ◌≡◌, Bool, true, false, length, get_or, take, eqb}
+use Rattle.std.specs.Prelude.{ℕ, suc, ◌+◌, ◌-◌, ◌<◌, ◌≤◌, ◌≡◌, Bool, true, false, min, length, get_or, take, eqb, ltb, Option, Some, None, is_none}
+use Rattle.std.specs.Cmp.{nat_cmp_is}
+use Rattle.std.specs.Ordering.{nat_cmp, ordering_then}
 use native.Mathlib.Omega.{arith}
-use Rattle.std.proofs.Common.{add-one, ◌∙◌, ⊎_elim, inl, inr, length-drop, take-append-drop, take-suc, length-take-le, take-take, get_or-take}
+use Rattle.std.proofs.Common.{add-one, ◌∙◌, ⊎_elim, inl, inr, length-drop, take-append-drop, take-suc, length-take-le, take-take, get_or-take, get_or-drop}
 use Rattle.std.proofs.Math.Nat.{add-sub_cancel_left}
 use Rattle.std.proofs.Math.Path.{refl, sym, ap}
 use mathlib.Core.List.{List, [], ◌∷◌, ◌++◌, append-nil}
@@ -9,15 +11,12 @@ use Rattle.std.proofs.lemmas.Bool.{false≢true}
 use Rattle.std.proofs.Math.ListN.{drop, drop_of_length-le}
 use Rattle.std.proofs.Math.Seq.{drop-cons, take-length}
 use Rattle.std.proofs.lemmas.List.{take-append-le, drop-append-le}
-use borrow.Author.Tests.{ne_eqb}
+use borrow.Author.Tests.{ne_eqb, ltb-true, ltb-false}
 use Rattle.octets.specs.Class.{is_sep}
 use Rattle.octets.specs.Laws.{split}
 use Rattle.octets.specs.declared.Seps.{Seps}
-use Rattle.octets.specs.declared.Seps.TheVariants.{Unix, Windows, Verbatim}
 use Rattle.prefixes.specs.declared.Figures.{Figures}
 use Rattle.prefixes.specs.declared.Prefix.{Prefix}
-use Rattle.prefixes.specs.declared.Parsed.{Parsed}
-use Rattle.prefixes.specs.declared.Parsed.TheVariants.{Nothing as Without, Is}
 use Rattle.prefixes.specs.Prefix.{figures_of, parsed_figures}
 use Rattle.prefixes.specs.Leaves.{NamesIn}
 use Rattle.prefixes.specs.Laws.{names_within}
@@ -27,8 +26,6 @@ use Rattle.parts.specs.declared.Element.{Element}
 use Rattle.parts.specs.declared.Kind.{Kind}
 use Rattle.parts.specs.declared.Kind.TheVariants.{Dot as LoneDot, DotDot, Name}
 use Rattle.parts.specs.declared.Part.{Part}
-use Rattle.parts.specs.declared.Piece.{Piece}
-use Rattle.parts.specs.declared.Piece.TheVariants.{Nothing, Found}
 use Rattle.parts.specs.Body.{component_of, dots, from}
 use Rattle.parts.specs.Elements.{bytes_at, Upto}
 use Rattle.parts.specs.Steps.{is_name, lift, FirstAt, within}
@@ -38,41 +35,44 @@ use Rattle.components.specs.declared.Dir.TheVariants.{Bare, Root, Implied, Dot}
 use Rattle.components.specs.declared.Start.{Start}
 use Rattle.components.specs.List.{start_of}
 use Rattle.components.specs.Leaves.{OpenAt}
-use Rattle.order.specs.declared.Ordering.{Ordering}
-use Rattle.order.specs.declared.Ordering.TheVariants.{Less, Equal, Greater}
+use Rattle.std.specs.declared.cmp.Ordering.{Ordering}
+use Rattle.std.specs.declared.cmp.Ordering.TheVariants.{Less, Equal, Greater}
 use Rattle.order.specs.declared.Heads.{Heads}
 use Rattle.order.specs.declared.Heads.TheVariants.{Same, Apart, First, Second}
 use Rattle.order.specs.Values.{valued, prefix_value, value_by, value_of, values_in, values_of}
 use Rattle.order.specs.Order.{and_then, cmp_nat, lexical, cmp_bytes, cmp_value, cmp_values, compare_of}
-use Rattle.order.proofs.Ordered.{itself, nat_ordered, value_ordered, nat_less, nat_more, nat_same, lists_skip}
-use Rattle.order.specs.Leaves.{Least, Differ, cmp_from, rank_of, dir_rank, dir_values, head_values, body_values, is_nil, meet_then, meet, order_of, meet_first, meet_second, seps_number, SeamAt, SkipAt}
+use Rattle.order.proofs.Ordered.{itself, nat_ordered, value_ordered, nat_less, nat_more, nat_same, nat_by, lists_skip}
+use Rattle.order.specs.Leaves.{Differ, cmp_from, rank_of, dir_rank, dir_values, head_values, body_values, is_nil, meet_then, meet, order_of, meet_lone, SeamAt, SkipAt}
 use Rattle.order.proofs.HeadLaws.{values_append, kind_less, kind_more, cmp_meet, meet_skip, whole_same, whole_apart, whole_first_end, whole_first_more, whole_second_end, whole_second_more, head_values_lem}
 
--- `least`
-module _ (a b : ℕ) where
-  pub least_first : a < b → Least a b a
-  least_first h = record { first = omega arith; second = omega arith; edge = inl (omega arith) }
+-- what the library's `cmp` says of two numbers
+nat_is : (a b : ℕ) → nat_cmp a b ≡ cmp_nat a b
+nat_is a b = sym (nat_cmp_is a b (cmp_nat a b) (nat_by a b (λ h. rw (nat_less a b h) h) (λ h. rw (nat_same a b (omega arith) (omega arith)) h) (λ h. rw (nat_more a b h) h)))
 
-  pub least_second : b ≤ a → Least a b b
-  least_second h = record { first = h; second = omega arith; edge = inr (omega arith) }
+-- where the first of two orders is not Equal, it is both
+first_told : (o p : Ordering) → (o ≡ Equal → ⊥) → and_then o p ≡ o
+first_told Less p n = refl
+first_told Equal p n = absurd (n refl)
+first_told Greater p n = refl
+
+nat_told : (a b : ℕ) → (a ≡ b → ⊥) → cmp_nat a b ≡ Equal → ⊥
+nat_told a b n e = nat_by a b (λ h. absurd (false≢true (cc (nat_less a b h, e)))) (λ h. n h) (λ h. absurd (false≢true (cc (nat_more a b h, e))))
+
+-- below or not
+ltb_or : {A : Type 0} (i n : ℕ) → (i < n → A) → (n ≤ i → A) → A
+ltb_or i n f g = split (ltb i n) (λ e. f (ltb-true i n e)) (λ e. g (ltb-false i n e))
 
 -- `mismatch`: e says that the two are the same up to i
-module _ (a b : List ℕ) (n i : ℕ) (l : Least (length a) (length b) n) (e : take i a ≡ take i b) where
-  module _ (h : i < n) where
+module _ (a b : List ℕ) (i : ℕ) (e : take i a ≡ take i b) where
+  module _ (h : i < min (length a) (length b)) where
     pub differ_here : (get_or a i 0 ≡ get_or b i 0 → ⊥) → Differ a b i
-    differ_here f = record { first = omega (arith, l.first); second = omega (arith, l.second); same = e; apart = λ _ _. f }
+    differ_here f = record { first = omega arith; second = omega arith; same = e; apart = λ _ _. f }
 
     pub differ_more : get_or a i 0 ≡ get_or b i 0 → take (i + 1) a ≡ take (i + 1) b
-    differ_more f = rw (add-one, take-suc a i 0 (omega (arith, l.first)), take-suc b i 0 (omega (arith, l.second)), e, f)
+    differ_more f = rw (add-one, take-suc a i 0 (omega arith), take-suc b i 0 (omega arith), e, f)
 
-  pub differ_end : i ≤ n → n ≤ i → Differ a b i
-  differ_end g h =
-      record {
-        first = omega (arith, l.first);
-        second = omega (arith, l.second);
-        same = e;
-        apart = λ x y _. ⊎_elim (λ (z : length a ≤ n). omega (arith, z, x)) (λ (z : length b ≤ n). omega (arith, z, y)) l.edge;
-      }
+  pub differ_end : i ≡ min (length a) (length b) → Differ a b i
+  differ_end g = record { first = omega arith; second = omega arith; same = e; apart = λ x y _. omega arith }
 
 -- `cmp_bytes`
 module _ (a b : List ℕ) (r : ℕ) (d : Differ a b r) where
@@ -90,29 +90,36 @@ module _ (a b : List ℕ) (r : ℕ) (d : Differ a b r) where
       unfolding cmp_from lexical
       both = rw (drop-cons a r 0 x, drop-cons b r 0 y)
 
-      pub bytes_less : get_or a r 0 < get_or b r 0 → Less ≡ cmp_bytes a b
-      bytes_less h = sym (bytes_from ∙ both ∙ rw (nat_less (get_or a r 0) (get_or b r 0) h))
+      pub bytes_both : (o : Ordering) → o ≡ nat_cmp (get_or a r 0) (get_or b r 0) → o ≡ cmp_bytes a b
+      bytes_both o e =
+          e ∙ nat_is (get_or a r 0) (get_or b r 0)
+          ∙ sym (bytes_from ∙ both ∙ first_told _ _ (nat_told (get_or a r 0) (get_or b r 0) (d.apart x y)))
 
-      pub bytes_more : get_or b r 0 ≤ get_or a r 0 → Greater ≡ cmp_bytes a b
-      bytes_more h = sym (bytes_from ∙ both ∙ rw (nat_more (get_or a r 0) (get_or b r 0) (other (d.apart x y))))
-        where
-          other : (get_or a r 0 ≡ get_or b r 0 → ⊥) → get_or b r 0 < get_or a r 0
-          other f = omega (arith, f, h)
+  -- one of the two ends there: the shorter comes first
+  pub bytes_ends : (o : Ordering) → (r < length a → r < length b → ⊥) → o ≡ nat_cmp (length a) (length b) → o ≡ cmp_bytes a b
+  unfolding cmp_from lexical
+  bytes_ends o n e =
+      e ∙ nat_is (length a) (length b) ∙ sym (bytes_from ∙ nat_by (length a) (length b)
+      (λ h. rw (ends_first (short h), drop-cons b r 0 (omega (arith, d.first, short h)), nat_less (length a) (length b) h))
+      (λ h. rw (ends_first (even h), ends_second (omega (arith, even h)), nat_same (length a) (length b) (omega arith) (omega arith)))
+      (λ h. rw (drop-cons a r 0 (omega (arith, d.second, long h)), ends_second (long h), nat_more (length a) (length b) h)))
+    where
+      ends_first : length a ≤ r → drop r a ≡ []
+      ends_first h = drop_of_length-le a h
 
-    pub bytes_longer : length b ≤ r → Greater ≡ cmp_bytes a b
-    unfolding cmp_from lexical
-    bytes_longer h = sym (bytes_from ∙ rw (drop-cons a r 0 x, drop_of_length-le b h))
+      ends_second : length b ≤ r → drop r b ≡ []
+      ends_second h = drop_of_length-le b h
 
-  module _ (x : length a ≤ r) where
-    pub bytes_shorter : r < length b → Less ≡ cmp_bytes a b
-    unfolding cmp_from lexical
-    bytes_shorter h = sym (bytes_from ∙ rw (drop_of_length-le a x, drop-cons b r 0 h))
+      short : length a < length b → length a ≤ r
+      short h = ltb_or r (length a) (λ x. absurd (n x (omega arith))) (λ y. y)
 
-    pub bytes_equal : length b ≤ r → Equal ≡ cmp_bytes a b
-    unfolding cmp_from lexical
-    bytes_equal h = sym (bytes_from ∙ rw (drop_of_length-le a x, drop_of_length-le b h))
+      even : length a ≡ length b → length a ≤ r
+      even h = ltb_or r (length a) (λ x. absurd (n x (omega arith))) (λ y. y)
 
-pub ruleset strings = (least_first, least_second, differ_here, differ_more, differ_end, bytes_less, bytes_more, bytes_longer, bytes_shorter, bytes_equal)
+      long : length b < length a → length b ≤ r
+      long h = ltb_or r (length b) (λ x. absurd (n (omega arith) x)) (λ y. y)
+
+pub ruleset strings = (differ_here, differ_more, differ_end, bytes_both, bytes_ends)
 
 -- `cmp_name`: a part `&s[i..e]` is so told
 pub name_is : (s : List ℕ) (i n : ℕ) (t : List ℕ) (j m : ℕ) (r : Ordering) → r ≡ cmp_bytes (take (i + n - i) (drop i s)) (take (j + m - j) (drop j t)) → r ≡ cmp_bytes (bytes_at s i n) (bytes_at t j m)
@@ -153,27 +160,33 @@ nameless s i n t j m DotDot e = refl
 nameless s i n t j m Name e = absurd (false≢true (sym e))
 
 module _ (s : List ℕ) (p : Part) (t : List ℕ) (q : Part) (a : ℕ) (x : a ≡ rank_of p.kind) (b : ℕ) (y : b ≡ rank_of q.kind) where
-  pub part_less : a < b → Less ≡ cmp_value (value_of s (lift p)) (value_of t (lift q))
-  unfolding cmp_value
-  part_less h =
-      rw (kind_rank s p.kind p.start p.len, kind_rank t q.kind q.start q.len, ← x, ← y) (rw (nat_less a b h))
+  abbrev parts_order : Ordering
+  parts_order = cmp_value (value_of s (lift p)) (value_of t (lift q))
 
-  pub part_more : b < a → Greater ≡ cmp_value (value_of s (lift p)) (value_of t (lift q))
-  unfolding cmp_value
-  part_more h =
-      rw (kind_rank s p.kind p.start p.len, kind_rank t q.kind q.start q.len, ← x, ← y) (rw (nat_more a b h))
+  module _ (o : Ordering) (e : o ≡ nat_cmp a b) where
+    ranks : and_then (cmp_nat a b) (and_then (cmp_nat (value_of s (lift p)).prefix (value_of t (lift q)).prefix) (and_then (cmp_nat (value_of s (lift p)).letter (value_of t (lift q)).letter) (and_then (cmp_bytes (value_of s (lift p)).name (value_of t (lift q)).name) (cmp_bytes (value_of s (lift p)).share (value_of t (lift q)).share)))) ≡ parts_order
+    unfolding cmp_value
+    ranks = rw (kind_rank s p.kind p.start p.len, kind_rank t q.kind q.start q.len, ← x, ← y)
 
-  module _ (g : a ≤ b) (h : b ≤ a) (c : Bool) (z : c ≡ is_name p.kind) where
-    kinds : q.kind ≡ p.kind
-    kinds = ranks_one q.kind p.kind (omega arith)
+    pub part_apart : (o ≡ Equal → ⊥) → o ≡ parts_order
+    part_apart n = sym (sym ranks ∙ rw (sym (nat_is a b), ← e) (first_told o _ n))
 
-    pub part_named : (r : Ordering) → c ≡ true → r ≡ cmp_bytes (bytes_at s p.start p.len) (bytes_at t q.start q.len) → r ≡ cmp_value (value_of s (lift p)) (value_of t (lift q))
-    part_named r v w = w ∙ rw kinds (sym (names_by s p.start p.len t q.start q.len p.kind (sym z ∙ v)))
+    module _ (z : o ≡ Equal) (c : Bool) (k : c ≡ is_name p.kind) where
+      kinds : q.kind ≡ p.kind
+      kinds = ranks_one q.kind p.kind (nat_by a b (λ h. absurd (nat_told a b (λ w. omega arith) (sym (nat_is a b) ∙ sym e ∙ z))) (λ h. omega arith) (λ h. absurd (nat_told a b (λ w. omega arith) (sym (nat_is a b) ∙ sym e ∙ z))))
 
-    pub part_equal : c ≡ false → Equal ≡ cmp_value (value_of s (lift p)) (value_of t (lift q))
-    part_equal v = rw kinds (sym (nameless s p.start p.len t q.start q.len p.kind (sym z ∙ v)))
+      pub part_named : (r : Ordering) → c ≡ true → r ≡ cmp_bytes (bytes_at s p.start p.len) (bytes_at t q.start q.len) → r ≡ parts_order
+      part_named r v w = w ∙ rw kinds (sym (names_by s p.start p.len t q.start q.len p.kind (sym k ∙ v)))
+
+      pub part_equal : c ≡ false → o ≡ parts_order
+      part_equal v = z ∙ rw kinds (sym (nameless s p.start p.len t q.start q.len p.kind (sym k ∙ v)))
 
 -- `cmp_names`, `cmp_prefix`
+both_then : (o p q : Ordering) → and_then (ordering_then o p) q ≡ and_then o (and_then p q)
+both_then Less p q = refl
+both_then Equal p q = refl
+both_then Greater p q = refl
+
 module _ (s : List ℕ) (a : Figures) (t : List ℕ) (b : Figures) where
   abbrev server : Ordering
   server = cmp_bytes (bytes_at s a.start1 a.len1) (bytes_at t b.start1 b.len1)
@@ -182,39 +195,29 @@ module _ (s : List ℕ) (a : Figures) (t : List ℕ) (b : Figures) where
   sharing = cmp_bytes (bytes_at s a.start2 a.len2) (bytes_at t b.start2 b.len2)
 
   module _ (o : Ordering) (e : o ≡ server) where
-    pub names_less : o ≡ Less → Less ≡ and_then server sharing
-    names_less f = rw (← e, f)
-
-    pub names_more : o ≡ Greater → Greater ≡ and_then server sharing
-    names_more f = rw (← e, f)
+    pub names_apart : (o ≡ Equal → ⊥) → o ≡ and_then server sharing
+    names_apart n = sym (rw (← e) (first_told o sharing n))
 
     pub names_equal : (r : Ordering) → o ≡ Equal → r ≡ sharing → r ≡ and_then server sharing
     names_equal r f g = g ∙ rw (← e, f)
 
-  pub prefix_less : a.kind < b.kind → Less ≡ cmp_value (prefix_value s a) (prefix_value t b)
-  unfolding cmp_value
-  prefix_less h = rw (nat_same 1 1 (omega arith) (omega arith), nat_less a.kind b.kind h)
+  abbrev prefixes_order : Ordering
+  prefixes_order = cmp_value (prefix_value s a) (prefix_value t b)
 
-  pub prefix_more : b.kind < a.kind → Greater ≡ cmp_value (prefix_value s a) (prefix_value t b)
-  unfolding cmp_value
-  prefix_more h = rw (nat_same 1 1 (omega arith) (omega arith), nat_more a.kind b.kind h)
-
-  module _ (g : a.kind ≤ b.kind) (h : b.kind ≤ a.kind) where
-    pub letter_less : a.letter < b.letter → Less ≡ cmp_value (prefix_value s a) (prefix_value t b)
+  module _ (o : Ordering) (e : o ≡ ordering_then (nat_cmp a.kind b.kind) (nat_cmp a.letter b.letter)) where
+    marks : prefixes_order ≡ and_then o (and_then server sharing)
     unfolding cmp_value
-    letter_less l = rw (nat_same 1 1 (omega arith) (omega arith), nat_same a.kind b.kind g h, nat_less a.letter b.letter l)
+    marks = rw (e, nat_is a.kind b.kind, nat_is a.letter b.letter, nat_same 1 1 (omega arith) (omega arith)) (sym (both_then (cmp_nat a.kind b.kind) (cmp_nat a.letter b.letter) (and_then server sharing)))
 
-    pub letter_more : b.letter < a.letter → Greater ≡ cmp_value (prefix_value s a) (prefix_value t b)
-    unfolding cmp_value
-    letter_more l = rw (nat_same 1 1 (omega arith) (omega arith), nat_same a.kind b.kind g h, nat_more a.letter b.letter l)
+    pub prefix_apart : (o ≡ Equal → ⊥) → o ≡ prefixes_order
+    prefix_apart n = sym (marks ∙ first_told o _ n)
 
-    pub letter_same : (r : Ordering) → a.letter ≤ b.letter → b.letter ≤ a.letter → r ≡ and_then server sharing → r ≡ cmp_value (prefix_value s a) (prefix_value t b)
-    unfolding cmp_value
-    letter_same r l m e = e ∙ rw (nat_same 1 1 (omega arith) (omega arith), nat_same a.kind b.kind g h, nat_same a.letter b.letter l m)
+    pub prefix_equal : (r : Ordering) → o ≡ Equal → r ≡ and_then server sharing → r ≡ prefixes_order
+    prefix_equal r f g = g ∙ sym (marks ∙ rw f)
 
-pub ruleset values = (name_is, part_less, part_more, part_named, part_equal, names_less, names_more, names_equal, prefix_less, prefix_more, letter_less, letter_more, letter_same)
+pub ruleset values = (name_is, part_apart, part_named, part_equal, names_apart, names_equal, prefix_apart, prefix_equal)
 
--- `meet_dirs`, `meet_first`, `meet_second`: a and b are what `dir_rank` answered
+-- `meet_dirs`: a and b are what `dir_rank` answered
 one_meets : (c : ℕ) → meet (dir_values c) (dir_values c) ≡ Same
 unfolding dir_values meet
 one_meets c = split (eqb c 0) (λ e. rw e) (λ e. rw (e, itself value_ordered (valued c [])))
@@ -236,39 +239,28 @@ module _ (d e : Dir) (a b : ℕ) (f : a ≡ dir_rank d) (g : b ≡ dir_rank e) w
     dirs_first h = rw (← f, ← g, h, ne_eqb a 0 (λ z. n (z ∙ sym h)))
 
     module _ (x : a ≡ 0 → ⊥) (y : b ≡ 0 → ⊥) where
-      pub dirs_less : a < b → Apart Less ≡ dirs
+      pub dirs_apart : (o : Ordering) → o ≡ nat_cmp a b → Apart o ≡ dirs
       unfolding dir_values meet
-      dirs_less h = rw (← f, ← g, ne_eqb a 0 x, ne_eqb b 0 y, kind_less (valued a []) (valued b []) h)
-
-      pub dirs_more : b ≤ a → Apart Greater ≡ dirs
-      unfolding dir_values meet
-      dirs_more h = rw (← f, ← g, ne_eqb a 0 x, ne_eqb b 0 y, kind_more (valued a []) (valued b []) (omega (arith, n)))
-
-module _ (d : Dir) (c : ℕ) (f : c ≡ dir_rank d) where
-  pub first_none_left : c ≡ 0 → First ≡ meet_first (dir_rank d)
-  first_none_left e = rw (← f, e)
-
-  pub first_before : (c ≡ 0 → ⊥) → Apart Less ≡ meet_first (dir_rank d)
-  first_before n = rw (← f, ne_eqb c 0 n)
-
-  pub second_none_left : c ≡ 0 → Second ≡ meet_second (dir_rank d)
-  second_none_left e = rw (← f, e)
-
-  pub second_before : (c ≡ 0 → ⊥) → Apart Greater ≡ meet_second (dir_rank d)
-  second_before n = rw (← f, ne_eqb c 0 n)
+      dirs_apart o z =
+          rw (← f, ← g, ne_eqb a 0 x, ne_eqb b 0 y) (nat_by a b
+          (λ h. rw (z ∙ nat_is a b ∙ nat_less a b h, kind_less (valued a []) (valued b []) h))
+          (λ h. absurd (n h))
+          (λ h. rw (z ∙ nat_is a b ∙ nat_more a b h, kind_more (valued a []) (valued b []) h)))
 
 -- `meet_prefixes`, `meet_heads`
+apart_told : (m : Heads) (o : Ordering) → (o ≡ Equal → ⊥) → Apart o ≡ meet_then o m
+apart_told m Less n = refl
+apart_told m Equal n = absurd (n refl)
+apart_told m Greater n = refl
+
 module _ (s : List ℕ) (g : Start) (t : List ℕ) (h : Start) (a b : Figures) (x : a ≡ parsed_figures g.prefix) (y : b ≡ parsed_figures h.prefix) (o : Ordering) (e : o ≡ cmp_value (prefix_value s a) (prefix_value t b)) where
   abbrev both_prefixes : Heads
   both_prefixes =
       meet_then (cmp_value (prefix_value s (parsed_figures g.prefix)) (prefix_value t (parsed_figures h.prefix)))
       (meet (dir_values (dir_rank g.dir)) (dir_values (dir_rank h.dir)))
 
-  pub prefixes_less : o ≡ Less → Apart Less ≡ both_prefixes
-  prefixes_less f = rw (← x, ← y, ← e, f)
-
-  pub prefixes_more : o ≡ Greater → Apart Greater ≡ both_prefixes
-  prefixes_more f = rw (← x, ← y, ← e, f)
+  pub prefixes_apart : (o ≡ Equal → ⊥) → Apart o ≡ both_prefixes
+  prefixes_apart n = rw (← x, ← y, ← e) (apart_told _ o n)
 
   pub prefixes_same : (r : Heads) → o ≡ Equal → r ≡ meet (dir_values (dir_rank g.dir)) (dir_values (dir_rank h.dir)) → r ≡ both_prefixes
   prefixes_same r f z = z ∙ rw (← x, ← y, ← e, f)
@@ -283,10 +275,10 @@ module _ (s : List ℕ) (g : Start) (t : List ℕ) (h : Start) (r : Heads) where
   abbrev heads : Heads
   heads = meet (head_values s g) (head_values t h)
 
-  pub heads_bare : g.prefix ≡ Without → h.prefix ≡ Without → r ≡ meet (dir_values (dir_rank g.dir)) (dir_values (dir_rank h.dir)) → r ≡ heads
+  pub heads_bare : g.prefix ≡ None → h.prefix ≡ None → r ≡ meet (dir_values (dir_rank g.dir)) (dir_values (dir_rank h.dir)) → r ≡ heads
   heads_bare x y e = e ∙ rw (head_values_lem s g, head_values_lem t h, x, y)
 
-  pub heads_second : (p : Prefix) → g.prefix ≡ Without → h.prefix ≡ Is p → r ≡ meet_second (dir_rank g.dir) → r ≡ heads
+  pub heads_second : (p : Prefix) → g.prefix ≡ None → h.prefix ≡ Some p → r ≡ meet_lone (dir_rank g.dir) Second Greater → r ≡ heads
   unfolding meet dir_values
   heads_second p x y e =
       e ∙ rw (head_values_lem s g, head_values_lem t h, x, y)
@@ -294,7 +286,7 @@ module _ (s : List ℕ) (g : Start) (t : List ℕ) (h : Start) (r : Heads) where
       (λ z. rw z)
       (λ z. rw (z, kind_more (valued (dir_rank g.dir) []) (prefix_value t (figures_of p)) (rank_high g.dir z))))
 
-  pub heads_first : (p : Prefix) → g.prefix ≡ Is p → h.prefix ≡ Without → r ≡ meet_first (dir_rank h.dir) → r ≡ heads
+  pub heads_first : (p : Prefix) → g.prefix ≡ Some p → h.prefix ≡ None → r ≡ meet_lone (dir_rank h.dir) First Less → r ≡ heads
   unfolding meet dir_values
   heads_first p x y e =
       e ∙ rw (head_values_lem s g, head_values_lem t h, x, y)
@@ -302,7 +294,7 @@ module _ (s : List ℕ) (g : Start) (t : List ℕ) (h : Start) (r : Heads) where
       (λ z. rw z)
       (λ z. rw (z, kind_less (prefix_value s (figures_of p)) (valued (dir_rank h.dir) []) (rank_high h.dir z))))
 
-  pub heads_both : (p q : Prefix) → g.prefix ≡ Is p → h.prefix ≡ Is q
+  pub heads_both : (p q : Prefix) → g.prefix ≡ Some p → h.prefix ≡ Some q
       → r ≡ meet_then (cmp_value (prefix_value s (parsed_figures g.prefix)) (prefix_value t (parsed_figures h.prefix))) (meet (dir_values (dir_rank g.dir)) (dir_values (dir_rank h.dir)))
       → r ≡ heads
   unfolding meet
@@ -313,21 +305,15 @@ pub names_here : (k : Seps) (s : List ℕ) (g : Start) → OpenAt k s g → Name
 unfolding start_of
 names_here k s g o = rw o.is (names_within k s)
 
-pub names_told : (s : List ℕ) (p : Parsed) (f : Figures) → f ≡ parsed_figures p → NamesIn s (parsed_figures p) → NamesIn s f
+pub names_told : (s : List ℕ) (p : Option Prefix) (f : Figures) → f ≡ parsed_figures p → NamesIn s (parsed_figures p) → NamesIn s f
 names_told s p f e n = rw e n
 
 pub ruleset headings = (
   dirs_same,
   dirs_second,
   dirs_first,
-  dirs_less,
-  dirs_more,
-  first_none_left,
-  first_before,
-  second_none_left,
-  second_before,
-  prefixes_less,
-  prefixes_more,
+  dirs_apart,
+  prefixes_apart,
   prefixes_same,
   heads_bare,
   heads_second,
@@ -339,37 +325,35 @@ pub ruleset headings = (
 
 -- ---- bodies
 -- what a step by `first` tells of the values
-module _ (k : Seps) (s : List ℕ) (i : ℕ) (p : Piece) (f : FirstAt (is_sep k) (dots k) s i p) where
-  pub values_none : p ≡ Nothing → body_values k s i ≡ []
+module _ (k : Seps) (s : List ℕ) (i : ℕ) (p : Option Part) (f : FirstAt (is_sep k) (dots k) s i p) where
+  pub values_none : p ≡ None → body_values k s i ≡ []
   unfolding body_values values_in
   values_none e = rw (first_none f e)
 
-  pub values_found : (m : Part) → p ≡ Found m → body_values k s i ≡ value_of s (lift m) ∷ body_values k s (m.start + m.len + 1)
+  pub values_found : (m : Part) → p ≡ Some m → body_values k s i ≡ value_of s (lift m) ∷ body_values k s (m.start + m.len + 1)
   unfolding body_values values_in
   values_found m e = rw (first_found f e).is
 
-  -- `is_end`
-  pub end_here : p ≡ Nothing → true ≡ is_nil (body_values k s i)
-  end_here e = rw (values_none e)
-
-  pub end_not : (m : Part) → p ≡ Found m → false ≡ is_nil (body_values k s i)
-  end_not m e = rw (values_found m e)
+-- `is_bare`
+pub end_told : (k : Seps) (s : List ℕ) (i : ℕ) (p : Option Part) (b : Bool) → FirstAt (is_sep k) (dots k) s i p → b ≡ is_none p → b ≡ is_nil (body_values k s i)
+end_told k s i None b f e = e ∙ rw (values_none k s i None f refl)
+end_told k s i (Some m) b f e = e ∙ rw (values_found k s i (Some m) f m refl)
 
 -- `walk`: r is what it is to answer, p and q the next pieces
-module _ (k h : Seps) (s t : List ℕ) (x y : ℕ) (p q : Piece) (r : Ordering) (e : r ≡ cmp_values (body_values k s x) (body_values h t y)) (f : FirstAt (is_sep k) (dots k) s x p) (g : FirstAt (is_sep h) (dots h) t y q) where
-  pub walk_end : p ≡ Nothing → q ≡ Nothing → Equal ≡ r
+module _ (k h : Seps) (s t : List ℕ) (x y : ℕ) (p q : Option Part) (r : Ordering) (e : r ≡ cmp_values (body_values k s x) (body_values h t y)) (f : FirstAt (is_sep k) (dots k) s x p) (g : FirstAt (is_sep h) (dots h) t y q) where
+  pub walk_end : p ≡ None → q ≡ None → Equal ≡ r
   unfolding lexical
   walk_end a b = sym (e ∙ rw (values_none k s x p f a, values_none h t y q g b))
 
-  pub walk_less : (n : Part) → p ≡ Nothing → q ≡ Found n → Less ≡ r
+  pub walk_less : (n : Part) → p ≡ None → q ≡ Some n → Less ≡ r
   unfolding lexical
   walk_less n a b = sym (e ∙ rw (values_none k s x p f a, values_found h t y q g n b))
 
-  pub walk_more : (m : Part) → p ≡ Found m → q ≡ Nothing → Greater ≡ r
+  pub walk_more : (m : Part) → p ≡ Some m → q ≡ None → Greater ≡ r
   unfolding lexical
   walk_more m a b = sym (e ∙ rw (values_found k s x p f m a, values_none h t y q g b))
 
-  module _ (m n : Part) (a : p ≡ Found m) (b : q ≡ Found n) (o : Ordering) (c : o ≡ cmp_value (value_of s (lift m)) (value_of t (lift n))) where
+  module _ (m n : Part) (a : p ≡ Some m) (b : q ≡ Some n) (o : Ordering) (c : o ≡ cmp_value (value_of s (lift m)) (value_of t (lift n))) where
     walk_by : r ≡ and_then o (cmp_values (body_values k s (m.start + m.len + 1)) (body_values h t (n.start + n.len + 1)))
     unfolding lexical
     walk_by = e ∙ rw (values_found k s x p f m a, values_found h t y q g n b, ← c)
@@ -377,13 +361,10 @@ module _ (k h : Seps) (s t : List ℕ) (x y : ℕ) (p q : Piece) (r : Ordering) 
     pub walk_on : o ≡ Equal → r ≡ cmp_values (body_values k s (m.start + m.len + 1)) (body_values h t (n.start + n.len + 1))
     walk_on d = walk_by ∙ rw d
 
-    pub walk_part_less : o ≡ Less → Less ≡ r
-    walk_part_less d = sym (walk_by ∙ rw d)
+    pub walk_apart : (o ≡ Equal → ⊥) → o ≡ r
+    walk_apart d = sym (walk_by ∙ first_told o _ d)
 
-    pub walk_part_more : o ≡ Greater → Greater ≡ r
-    walk_part_more d = sym (walk_by ∙ rw d)
-
-pub ruleset bodies = (end_here, end_not, walk_end, walk_less, walk_more, walk_on, walk_part_less, walk_part_more)
+pub ruleset bodies = (end_told, walk_end, walk_less, walk_more, walk_on, walk_apart)
 
 -- ---- what two bodies have in common
 -- what ends before place j is told by the bytes before it
@@ -407,25 +388,17 @@ module _ (s : List ℕ) (j : ℕ) (l : j ≤ length s) where
   values_front sep v w (e ∷ m) u g = rw (value_front v e.component e.start e.len u.0 g.0.bodily, values_front sep v w m u.1 g.1)
 
 -- `seam`
-module _ (sep : ℕ → Bool) (s : List ℕ) (lo hi i : ℕ) where
-  pub seam_here : (b : Bool) → b ≡ sep (get_or s (i - 1) 0) → b ≡ true → lo < i → i ≤ hi → SeamAt sep s lo hi i
-  seam_here b t y l h = record { low = omega arith; edge = inr (l, h, sym t ∙ y) }
+pub seam_found : (sep : ℕ → Bool) (s : List ℕ) (lo hi i : ℕ) → lo ≤ hi → hi ≤ length s → i < length (take (hi - lo) (drop lo s)) → sep (get_or (take (hi - lo) (drop lo s)) i 0) ≡ true → SeamAt sep s lo hi (lo + i + 1)
+seam_found sep s lo hi i l c h y =
+    let n : length (take (hi - lo) (drop lo s)) ≡ hi - lo = length-take-le (hi - lo) (drop lo s) (omega (arith, length-drop lo s)) in
+    let m : i < hi - lo = omega arith in
+    let z : lo + i + 1 - 1 ≡ lo + i = omega arith in
+    record { low = omega arith; edge = inr (omega arith, omega arith, ap (λ x. sep (get_or s x 0)) z ∙ ap sep (sym (get_or-take (hi - lo) (drop lo s) i 0 m ∙ get_or-drop lo s i 0)) ∙ y) }
 
 pub seam_none : (sep : ℕ → Bool) (s : List ℕ) (lo hi : ℕ) → SeamAt sep s lo hi lo
 seam_none sep s lo hi = record { low = omega arith; edge = inl refl }
 
 -- `skip`
-seps_one : (k h : Seps) → seps_number k ≡ seps_number h → k ≡ h
-seps_one Unix Unix e = refl
-seps_one Unix Windows e = absurd (omega (arith, e))
-seps_one Unix Verbatim e = absurd (omega (arith, e))
-seps_one Windows Unix e = absurd (omega (arith, e))
-seps_one Windows Windows e = refl
-seps_one Windows Verbatim e = absurd (omega (arith, e))
-seps_one Verbatim Unix e = absurd (omega (arith, e))
-seps_one Verbatim Windows e = absurd (omega (arith, e))
-seps_one Verbatim Verbatim e = refl
-
 -- a separator parts a body: what stands before it, and what behind
 from_cut : (sep : ℕ → Bool) (v : Bool) (s : List ℕ) (i r : ℕ) → i < r → r ≤ length s → sep (get_or s (r - 1) 0) ≡ true → from sep v s i ≡ from sep v (take (r - 1) s) i ++ from sep v s r
 unfolding within
@@ -491,12 +464,11 @@ module _ (k : Seps) (s : List ℕ) (i : ℕ) (h : Seps) (t : List ℕ) (j : ℕ)
   pub skip_none : SkipAt k s i h t j 0
   skip_none = skip_empty 0 refl
 
-  pub skip_some : (a b n r : ℕ) → i ≡ j → a ≡ seps_number k → b ≡ seps_number h → a ≡ b → Differ s t n → SeamAt (is_sep k) s i n r → SkipAt k s i h t j (r - i)
-  skip_some a b n r e f g c d m =
-      let q : h ≡ k = seps_one h k (sym g ∙ sym c ∙ f) in
+  pub skip_some : (n r : ℕ) → i ≡ j → k ≡ h → Differ s t n → SeamAt (is_sep k) s i n r → SkipAt k s i h t j (r - i)
+  skip_some n r e q d m =
       ⊎_elim
       (λ (z : r ≡ i). skip_empty (r - i) (omega arith))
-      (λ w. rw (q, ← e) (skip_seam k s t i n r d w.0 w.1 w.2))
+      (λ w. rw (← q, ← e) (skip_seam k s t i n r d w.0 w.1 w.2))
       m.edge
 
   module _ (n : ℕ) (m : SkipAt k s i h t j n) where
@@ -515,7 +487,7 @@ module _ (k : Seps) (s : List ℕ) (i : ℕ) (h : Seps) (t : List ℕ) (j : ℕ)
     pub skip_order : (r : Ordering) → r ≡ cmp_values (body_values k s (i + n)) (body_values h t (j + n)) → r ≡ cmp_values (body_values k s i) (body_values h t j)
     skip_order r e = e ∙ cmp_meet (body_values k s (i + n)) (body_values h t (j + n)) ∙ sym (cmp_meet (body_values k s i) (body_values h t j) ∙ rw skip_meets)
 
-pub ruleset skips = (seam_here, seam_none, skip_none, skip_some, skip_order)
+pub ruleset skips = (seam_found, seam_none, skip_none, skip_some, skip_order)
 
 -- `compare`: g and h are what `begin` told, m how they meet
 module _ (k : Seps) (s t : List ℕ) (g h : Start) (o : OpenAt k s g) (q : OpenAt k t h) (m : Heads) (e : m ≡ meet (head_values s g) (head_values t h)) where

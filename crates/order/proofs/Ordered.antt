@@ -5,8 +5,8 @@ use Rattle.std.proofs.Math.Path.{refl}
 use mathlib.Core.List.{List, [], ◌∷◌, ◌++◌}
 use borrow.Author.Tests.{lt-ltb, le-ltb, ltb-true, ltb-false}
 use Rattle.octets.specs.Laws.{split}
-use Rattle.order.specs.declared.Ordering.{Ordering}
-use Rattle.order.specs.declared.Ordering.TheVariants.{Less, Equal, Greater}
+use Rattle.std.specs.declared.cmp.Ordering.{Ordering}
+use Rattle.std.specs.declared.cmp.Ordering.TheVariants.{Less, Equal, Greater}
 use Rattle.order.specs.Ordered.{swapped, Ordered, Before}
 use Rattle.order.specs.Values.{Value}
 use Rattle.order.specs.Order.{and_then, cmp_nat, lexical, cmp_bytes, cmp_value, cmp_values}
@@ -41,7 +41,7 @@ module _ (a b : ℕ) where
   nat_same h k = simp (le-ltb a b k, le-ltb b a h)
 
   -- which of the three two numbers are
-  nat_by : {A : Type 0} → (a < b → A) → (a ≡ b → A) → (b < a → A) → A
+  pub nat_by : {A : Type 0} → (a < b → A) → (a ≡ b → A) → (b < a → A) → A
   nat_by f g h =
       split (ltb a b)
       (λ x. f (ltb-true a b x))

@@ -1,44 +1,46 @@
 -- Laws of comparing eight bytes as one number: a number tells its bytes.
-use Rattle.std.specs.Prelude.{ℕ, ◌+◌, ◌-◌, ◌<◌, ◌≤◌, ◌≡◌, List, length, get_or, take}
-use Rattle.std.proofs.Common.{arith, add-one, take-suc}
-use Rattle.order.specs.Leaves.{TwoAt, FourAt, EightAt}
+use Rattle.std.specs.Prelude.{ℕ, suc, ◌+◌, ◌<◌, ◌≤◌, ◌≡◌, List, [], ◌∷◌, length, get_or, take, drop, ltb}
+use Rattle.std.specs.Int.{to_le_bytes, from_le_bytes, w64}
+use Rattle.std.proofs.Common.{arith, ◌∙◌, refl, sym, ap, drop-cons, get_or-take, get_or-drop, length-take-le, length-take, length-drop}
+use Rattle.std.proofs.Math.Seq.{take-add}
+use Rattle.std.proofs.lemmas.Nat.{le_bytes_8}
+use Rattle.std.proofs.lemmas.List.{get_or_past}
+use borrow.Author.Tests.{ltb-true, ltb-false}
+use Rattle.octets.specs.Laws.{split}
+use Rattle.parts.specs.Elements.{bytes_at}
 
-two_small : (s : List ℕ) (i r : ℕ) → TwoAt s i r → r < 65536
-two_small s i r w = omega (arith, w.is, w.first, w.second)
+-- the first bytes from place i on: that at i, and those from k on
+more : (s : List ℕ) (i k m n : ℕ) → i < length s → m ≡ suc n → k ≡ suc i → bytes_at s i m ≡ get_or s i 0 ∷ bytes_at s k n
+more s i k m n h e f = rw (e, f, drop-cons s i 0 h)
 
-four_small : (s : List ℕ) (i r : ℕ) → FourAt s i r → r < 4294967296
-four_small s i r w = omega (arith, w.is, two_small s i w.low w.first, two_small s (i + 2) w.high w.second)
+-- eight bytes of a list, one by one
+eight_list : (s : List ℕ) (i : ℕ) → i + 8 ≤ length s
+    → bytes_at s i 8 ≡ get_or s i 0 ∷ get_or s (i + 1) 0 ∷ get_or s (i + 2) 0 ∷ get_or s (i + 3) 0 ∷ get_or s (i + 4) 0 ∷ get_or s (i + 5) 0 ∷ get_or s (i + 6) 0 ∷ get_or s (i + 7) 0 ∷ []
+eight_list s i h =
+    more s i (i + 1) 8 7 (omega arith) refl (omega arith)
+    ∙ ap (◌∷◌ (get_or s i 0)) (more s (i + 1) (i + 2) 7 6 (omega arith) refl (omega arith)
+    ∙ ap (◌∷◌ (get_or s (i + 1) 0)) (more s (i + 2) (i + 3) 6 5 (omega arith) refl (omega arith)
+    ∙ ap (◌∷◌ (get_or s (i + 2) 0)) (more s (i + 3) (i + 4) 5 4 (omega arith) refl (omega arith)
+    ∙ ap (◌∷◌ (get_or s (i + 3) 0)) (more s (i + 4) (i + 5) 4 3 (omega arith) refl (omega arith)
+    ∙ ap (◌∷◌ (get_or s (i + 4) 0)) (more s (i + 5) (i + 6) 3 2 (omega arith) refl (omega arith)
+    ∙ ap (◌∷◌ (get_or s (i + 5) 0)) (more s (i + 6) (i + 7) 2 1 (omega arith) refl (omega arith)
+    ∙ ap (◌∷◌ (get_or s (i + 6) 0)) (more s (i + 7) (i + 8) 1 0 (omega arith) refl (omega arith))))))))
 
--- `stretch`: e says that the two are the same up to i
-module _ (a b : List ℕ) where
-  one_more : (i : ℕ) → take i a ≡ take i b → i < length a → i < length b → get_or a i 0 ≡ get_or b i 0 → take (i + 1) a ≡ take (i + 1) b
-  one_more i e x y f = rw (add-one, take-suc a i 0 x, take-suc b i 0 y, e, f)
+byte_in : (s : List ℕ) (i k : ℕ) → ((j : ℕ) → get_or s j 0 < 256) → get_or (bytes_at s i 8) k 0 < 256
+byte_in s i k b =
+    split (ltb k 8)
+    (λ e. rw (get_or-take 8 (drop i s) k 0 (ltb-true k 8 e), get_or-drop i s k 0) (b (i + k)))
+    (λ e. let l : length (bytes_at s i 8) ≤ k = omega (arith, length-take 8 (drop i s), ltb-false k 8 e) in rw (get_or_past (bytes_at s i 8) k 0 l) (omega arith))
 
-  two_more : (i r : ℕ) → take i a ≡ take i b → i + 2 ≤ length a → i + 2 ≤ length b → TwoAt a i r → TwoAt b i r → take (i + 2) a ≡ take (i + 2) b
-  two_more i r e x y f g =
-      let u = f.is in
-      let v = g.is in
-      let p : get_or a i 0 ≡ get_or b i 0 = omega (arith, u, v, f.first, f.second, g.first, g.second) in
-      let q : get_or a (i + 1) 0 ≡ get_or b (i + 1) 0 = omega (arith, u, v, f.first, f.second, g.first, g.second) in
-      let n : i + 1 + 1 ≡ i + 2 = omega arith in
-      rw n at (one_more (i + 1) (one_more i e (omega arith) (omega arith) p) (omega arith) (omega arith) q)
+-- `eight_bytes`
+pub eight_told : (s : List ℕ) (i n : ℕ) → i + 8 ≤ length s → ((j : ℕ) → get_or s j 0 < 256)
+    → n ≡ from_le_bytes w64 (get_or s i 0 ∷ get_or s (i + 1) 0 ∷ get_or s (i + 2) 0 ∷ get_or s (i + 3) 0 ∷ get_or s (i + 4) 0 ∷ get_or s (i + 5) 0 ∷ get_or s (i + 6) 0 ∷ get_or s (i + 7) 0 ∷ [])
+    → to_le_bytes w64 n ≡ bytes_at s i 8
+eight_told s i n h b e =
+    le_bytes_8 (bytes_at s i 8) n (length-take-le 8 (drop i s) (omega (arith, length-drop i s))) (λ k. byte_in s i k b) (e ∙ ap (from_le_bytes w64) (sym (eight_list s i h)))
 
-  four_more : (i r : ℕ) → take i a ≡ take i b → i + 4 ≤ length a → i + 4 ≤ length b → FourAt a i r → FourAt b i r → take (i + 4) a ≡ take (i + 4) b
-  four_more i r e x y f g =
-      let k = two_small a i f.low f.first in
-      let l = two_small b i g.low g.first in
-      let p : f.low ≡ g.low = omega (arith, f.is, g.is, k, l) in
-      let q : f.high ≡ g.high = omega (arith, f.is, g.is, k, l) in
-      let n : i + 2 + 2 ≡ i + 4 = omega arith in
-      rw n at (two_more (i + 2) g.high (two_more i g.low e (omega arith) (omega arith) (rw p at f.first) g.first) (omega arith) (omega arith) (rw q at f.second) g.second)
-
-  pub eight_more : (n i r m : ℕ) → n ≤ length a → n ≤ length b → take i a ≡ take i b → i ≤ n → 8 ≤ n - i → EightAt a i r → EightAt b i m → r ≡ m → take (i + 8) a ≡ take (i + 8) b
-  eight_more n i r m x y e z t f g h =
-      let k = four_small a i f.low f.first in
-      let l = four_small b i g.low g.first in
-      let p : f.low ≡ g.low = omega (arith, f.is, g.is, k, l, h) in
-      let q : f.high ≡ g.high = omega (arith, f.is, g.is, k, l, h) in
-      let w : i + 4 + 4 ≡ i + 8 = omega arith in
-      rw w at (four_more (i + 4) g.high (four_more i g.low e (omega arith) (omega arith) (rw p at f.first) g.first) (omega arith) (omega arith) (rw q at f.second) g.second)
+-- `stretch`: the two are the same up to i, and so are the eight bytes from there on
+pub eight_more : (a b : List ℕ) (i k r m : ℕ) → take i a ≡ take i b → to_le_bytes w64 r ≡ bytes_at a i 8 → to_le_bytes w64 m ≡ bytes_at b i 8 → r ≡ m → k ≡ i + 8 → take k a ≡ take k b
+eight_more a b i k r m e f g h z = rw (z, take-add i 8 a, take-add i 8 b, e, ← f, ← g, h)
 
 pub ruleset eights = (eight_more)

@@ -1,10 +1,7 @@
 -- What the leaves promise and the loops keep. Nothing here has to be believed: the public promises do not name it.
-use Rattle.std.specs.Prelude.{ℕ, ◌+◌, ◌-◌, ◌*◌, ◌<◌, ◌≤◌, ◌≡◌, List, [], ◌∷◌, ◌++◌, Bool, true, false, cond, ◌⊎◌, length, get_or, take, drop, eqb}
+use Rattle.std.specs.Prelude.{ℕ, ◌+◌, ◌-◌, ◌<◌, ◌≤◌, ◌≡◌, List, [], ◌∷◌, ◌++◌, Bool, true, false, cond, ◌⊎◌, length, get_or, take, drop, eqb, Option, Some, None}
 use Rattle.octets.specs.Class.{is_sep}
 use Rattle.octets.specs.declared.Seps.{Seps}
-use Rattle.octets.specs.declared.Seps.TheVariants.{Unix, Windows, Verbatim}
-use Rattle.prefixes.specs.declared.Parsed.{Parsed}
-use Rattle.prefixes.specs.declared.Parsed.TheVariants.{Nothing, Is}
 use Rattle.prefixes.specs.Prefix.{figures_of}
 use Rattle.parts.specs.declared.Element.{Element}
 use Rattle.parts.specs.declared.Kind.{Kind}
@@ -14,38 +11,13 @@ use Rattle.components.specs.declared.Dir.{Dir}
 use Rattle.components.specs.declared.Dir.TheVariants.{Bare, Root, Implied, Dot as Here}
 use Rattle.components.specs.declared.Start.{Start}
 use Rattle.components.specs.List.{head_list}
-use Rattle.order.specs.declared.Ordering.{Ordering}
-use Rattle.order.specs.declared.Ordering.TheVariants.{Less, Equal, Greater}
+use Rattle.std.specs.declared.cmp.Ordering.{Ordering}
+use Rattle.std.specs.declared.cmp.Ordering.TheVariants.{Less, Equal, Greater}
 use Rattle.order.specs.declared.Heads.{Heads}
 use Rattle.order.specs.declared.Heads.TheVariants.{Same, Apart, First, Second}
 use Rattle.order.specs.Values.{Value, valued, prefix_value, values_in}
 use Rattle.order.specs.Order.{cmp_bytes, cmp_value}
-
--- n is the smaller of a and b
-pub record Least (a b n : ℕ) : Type 0 where
-  pub first : n ≤ a
-  pub second : n ≤ b
-  pub edge : (a ≤ n) ⊎ (b ≤ n)
-
--- r is two bytes of s from place i on as one number, the first counting least; four; eight
-pub record TwoAt (s : List ℕ) (i r : ℕ) : Type 0 where
-  pub is : r ≡ get_or s i 0 + 256 * get_or s (i + 1) 0
-  pub first : get_or s i 0 < 256
-  pub second : get_or s (i + 1) 0 < 256
-
-pub record FourAt (s : List ℕ) (i r : ℕ) : Type 0 where
-  pub low : ℕ
-  pub high : ℕ
-  pub is : r ≡ low + 65536 * high
-  pub first : TwoAt s i low
-  pub second : TwoAt s (i + 2) high
-
-pub record EightAt (s : List ℕ) (i r : ℕ) : Type 0 where
-  pub low : ℕ
-  pub high : ℕ
-  pub is : r ≡ low + 4294967296 * high
-  pub first : FourAt s i low
-  pub second : FourAt s (i + 4) high
+use Rattle.prefixes.specs.declared.Prefix.{Prefix}
 
 -- a and b are the same up to place r, where they differ or the shorter ends
 pub record Differ (a b : List ℕ) (r : ℕ) : Type 0 where
@@ -105,17 +77,9 @@ order_of (Apart o) = o
 order_of First = Greater
 order_of Second = Less
 
--- a prefix, on the first or on the second side alone, and what step 2 has on the other
-abbrev pub meet_first : ℕ → Heads
-meet_first c = cond (eqb c 0) First (Apart Less)
-
-abbrev pub meet_second : ℕ → Heads
-meet_second c = cond (eqb c 0) Second (Apart Greater)
-
-abbrev pub seps_number : Seps → ℕ
-seps_number Unix = 0
-seps_number Windows = 1
-seps_number Verbatim = 2
+-- a prefix on one side alone, and what step 2 has on the other
+abbrev pub meet_lone : ℕ → Heads → Ordering → Heads
+meet_lone c alone o = cond (eqb c 0) alone (Apart o)
 
 -- r is lo, or stands behind a separator between lo and hi
 pub record SeamAt (sep : ℕ → Bool) (s : List ℕ) (lo hi r : ℕ) : Type 0 where
@@ -137,6 +101,6 @@ lead_kind [] = 4
 lead_kind (v ∷ l) = v.kind
 
 -- the value of a prefix, if there is one
-abbrev pub prefix_values : List ℕ → Parsed → List Value
-prefix_values s Nothing = []
-prefix_values s (Is p) = prefix_value s (figures_of p) ∷ []
+abbrev pub prefix_values : List ℕ → Option Prefix → List Value
+prefix_values s None = []
+prefix_values s (Some p) = prefix_value s (figures_of p) ∷ []

@@ -3,8 +3,8 @@
 -- DeviceNS, UNC, Disk, then their contents."
 use Rattle.std.specs.Prelude.{ℕ, List, [], ◌∷◌, cond, ltb}
 use Rattle.octets.specs.declared.Seps.{Seps}
-use Rattle.order.specs.declared.Ordering.{Ordering}
-use Rattle.order.specs.declared.Ordering.TheVariants.{Less, Equal, Greater}
+use Rattle.std.specs.declared.cmp.Ordering.{Ordering}
+use Rattle.std.specs.declared.cmp.Ordering.TheVariants.{Less, Equal, Greater}
 use Rattle.order.specs.Values.{Value, values_of}
 
 -- the first order, or where that is Equal the second

@@ -1,7 +1,7 @@
 -- What makes a comparison an order; proofs/Ordered.antt has that those of order are.
 use Rattle.std.specs.Prelude.{◌≡◌, List}
-use Rattle.order.specs.declared.Ordering.{Ordering}
-use Rattle.order.specs.declared.Ordering.TheVariants.{Less, Equal, Greater}
+use Rattle.std.specs.declared.cmp.Ordering.{Ordering}
+use Rattle.std.specs.declared.cmp.Ordering.TheVariants.{Less, Equal, Greater}
 use Rattle.order.specs.Values.{Value}
 use Rattle.order.specs.Order.{cmp_values}
 

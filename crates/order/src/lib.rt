@@ -1,8 +1,9 @@
 // The order of two paths: their lists are compared element by element, heads first and then bodies, in one walk over both
 // by places. What is compared of an element is its value, kind, letter and names, never its extent.
-#![tactic(auto)]
+#![tactic(auto, using(crate::proofs::Laws::bodies, crate::proofs::Laws::headings, crate::proofs::Laws::orders, crate::proofs::Laws::skips, crate::proofs::Laws::strings, crate::proofs::Laws::values, crate::specs::Eights::eights, parts::specs::Laws::walks))]
 
 ghost use Rattle.std.specs.Prelude.{◌≡◌, ◌+◌, ◌<◌, ◌≤◌, length, take};
+ghost use Rattle.std.specs.Int.{to_le_bytes, w64};
 ghost use Rattle.octets.specs.Class.{is_sep};
 ghost use Rattle.prefixes.specs.Prefix.{parsed_figures};
 ghost use Rattle.prefixes.specs.Leaves.{NamesIn};
@@ -10,19 +11,13 @@ ghost use Rattle.parts.specs.Elements.{bytes_at};
 ghost use Rattle.parts.specs.Steps.{lift};
 ghost use Rattle.order.specs.Values.{prefix_value, value_of};
 ghost use Rattle.order.specs.Order.{and_then, cmp_bytes, cmp_value, cmp_values, compare_of, order_number};
-ghost use Rattle.order.specs.Leaves.{Least, TwoAt, FourAt, EightAt, Differ, rank_of, dir_rank, dir_values, head_values, body_values, is_nil, meet_then, meet, meet_first, meet_second, seps_number, SeamAt, SkipAt};
+ghost use Rattle.order.specs.Leaves.{Differ, rank_of, dir_rank, dir_values, head_values, body_values, is_nil, meet_then, meet, meet_lone, SeamAt, SkipAt};
 
 use components::{Dir, Start};
 use octets::Seps;
-use parts::{Kind, Part, Piece};
-use prefixes::{Figures, Parsed};
-
-#[derive(Clone, Copy)]
-pub enum Ordering {
-    Less,
-    Equal,
-    Greater,
-}
+use parts::{Kind, Part};
+use prefixes::Figures;
+use std::cmp::Ordering;
 
 // How two heads meet: alike, apart, or one goes on where the other is used up.
 #[derive(Clone, Copy)]
@@ -44,40 +39,21 @@ pub fn number(o: Ordering) -> usize
     }
 }
 
-fn least(a: usize, b: usize) -> usize
-    ensures { Least a b result }
-{
-    if a < b {
-        return a;
-    }
-    b
-}
-
-// Two bytes of s from i on as one number, of which the compiler makes one read; four; eight.
-fn two_bytes(s: &[u8], i: usize) -> u64
-    requires { i + 2 ≤ length s.now }
-    ensures { TwoAt s.now i result }
-{
-    let j = i + 1;
-    (s[i] as u64) + 256 * (s[j] as u64)
-}
-
-fn four_bytes(s: &[u8], i: usize) -> u64
-    requires { i + 4 ≤ length s.now }
-    ensures { FourAt s.now i result }
-{
-    let a = two_bytes(s, i);
-    let b = two_bytes(s, i + 2);
-    a + 65536 * b
-}
-
+// Eight bytes of s from i on as one number, of which the compiler makes one read.
 fn eight_bytes(s: &[u8], i: usize) -> u64
     requires { i + 8 ≤ length s.now }
-    ensures { EightAt s.now i result }
+    ensures { to_le_bytes w64 result ≡ bytes_at s.now i 8 }
 {
-    let a = four_bytes(s, i);
-    let b = four_bytes(s, i + 4);
-    a + 4294967296 * b
+    u64::from_le_bytes([
+        s[i],
+        s[i + 1],
+        s[i + 2],
+        s[i + 3],
+        s[i + 4],
+        s[i + 5],
+        s[i + 6],
+        s[i + 7],
+    ])
 }
 
 // A place up to which the first n bytes of a and b are the same, found by eights: fewer than eight are left, or a difference is
@@ -86,51 +62,36 @@ fn stretch(a: &[u8], b: &[u8], n: usize) -> usize
     requires { (n ≤ length a.now) × (n ≤ length b.now) }
     ensures { (result ≤ n) × (take result a.now ≡ take result b.now) }
 {
-    let mut i: usize = 0;
-    while 8 <= n - i {
-        let x = eight_bytes(a, i);
-        let y = eight_bytes(b, i);
-        if x != y {
+    for j in 0..n / 8 {
+        let i = 8 * j;
+        if eight_bytes(a, i) != eight_bytes(b, i) {
             return i;
         }
-        i += 8;
     }
-    i
+    8 * (n / 8)
 }
 
 // The first place at which a and b differ, or where the shorter ends.
 pub fn mismatch(a: &[u8], b: &[u8]) -> usize
     ensures { Differ a.now b.now result }
 {
-    let n = least(a.len(), b.len());
-    let mut i = stretch(a, b, n);
-    while i < n {
+    let n = a.len().min(b.len());
+    for i in stretch(a, b, n)..n {
         if a[i] != b[i] {
             return i;
         }
-        i += 1;
     }
-    i
+    n
 }
 
 pub fn cmp_bytes(a: &[u8], b: &[u8]) -> Ordering
     ensures { result ≡ cmp_bytes a.now b.now }
 {
     let i = mismatch(a, b);
-    if i < a.len() {
-        if i < b.len() {
-            if a[i] < b[i] {
-                return Ordering::Less;
-            }
-            return Ordering::Greater;
-        }
-        return Ordering::Greater;
+    if i < a.len() && i < b.len() {
+        return a[i].cmp(&b[i]);
     }
-    let end = b.len();
-    if i < end {
-        return Ordering::Less;
-    }
-    Ordering::Equal
+    a.len().cmp(&b.len())
 }
 
 // The order of n bytes of s from i on and m bytes of t from j on.
@@ -138,9 +99,7 @@ fn cmp_name(s: &[u8], i: usize, n: usize, t: &[u8], j: usize, m: usize) -> Order
     requires { (i + n ≤ length s.now) × (j + m ≤ length t.now) }
     ensures { result ≡ cmp_bytes (bytes_at s.now i n) (bytes_at t.now j m) }
 {
-    let e = i + n;
-    let f = j + m;
-    cmp_bytes(&s[i..e], &t[j..f])
+    cmp_bytes(&s[i..i + n], &t[j..j + m])
 }
 
 // A part's kind in the order of kinds.
@@ -159,20 +118,12 @@ pub fn cmp_part(s: &[u8], p: Part, t: &[u8], q: Part) -> Ordering
     requires { (p.start + p.len ≤ length s.now) × (q.start + q.len ≤ length t.now) }
     ensures { result ≡ cmp_value (value_of s.now (lift p)) (value_of t.now (lift q)) }
 {
-    let k = p.kind;
-    let h = q.kind;
-    let a = rank(k);
-    let b = rank(h);
-    if a < b {
-        return Ordering::Less;
+    match rank(p.kind).cmp(&rank(q.kind)) {
+        Ordering::Equal if parts::is_name(p.kind) => {
+            cmp_name(s, p.start, p.len, t, q.start, q.len)
+        }
+        o => o,
     }
-    if b < a {
-        return Ordering::Greater;
-    }
-    if parts::is_name(k) {
-        return cmp_name(s, p.start, p.len, t, q.start, q.len);
-    }
-    Ordering::Equal
 }
 
 // The order of two prefixes' names, a's in s and b's in t: the server before the share.
@@ -180,11 +131,9 @@ fn cmp_names(s: &[u8], a: Figures, t: &[u8], b: Figures) -> Ordering
     requires { NamesIn s.now a × NamesIn t.now b }
     ensures { result ≡ and_then (cmp_bytes (bytes_at s.now a.start1 a.len1) (bytes_at t.now b.start1 b.len1)) (cmp_bytes (bytes_at s.now a.start2 a.len2) (bytes_at t.now b.start2 b.len2)) }
 {
-    let o = cmp_name(s, a.start1, a.len1, t, b.start1, b.len1);
-    match o {
-        Ordering::Less => Ordering::Less,
+    match cmp_name(s, a.start1, a.len1, t, b.start1, b.len1) {
         Ordering::Equal => cmp_name(s, a.start2, a.len2, t, b.start2, b.len2),
-        Ordering::Greater => Ordering::Greater,
+        o => o,
     }
 }
 
@@ -193,19 +142,10 @@ pub fn cmp_prefix(s: &[u8], a: Figures, t: &[u8], b: Figures) -> Ordering
     requires { NamesIn s.now a × NamesIn t.now b }
     ensures { result ≡ cmp_value (prefix_value s.now a) (prefix_value t.now b) }
 {
-    if a.kind < b.kind {
-        return Ordering::Less;
+    match a.kind.cmp(&b.kind).then(a.letter.cmp(&b.letter)) {
+        Ordering::Equal => cmp_names(s, a, t, b),
+        o => o,
     }
-    if b.kind < a.kind {
-        return Ordering::Greater;
-    }
-    if a.letter < b.letter {
-        return Ordering::Less;
-    }
-    if b.letter < a.letter {
-        return Ordering::Greater;
-    }
-    cmp_names(s, a, t, b)
 }
 
 // Step 2's component in the order of kinds; 0 for none.
@@ -235,29 +175,17 @@ fn meet_dirs(d: Dir, e: Dir) -> Heads
     if b == 0 {
         return Heads::First;
     }
-    if a < b {
-        return Heads::Apart(Ordering::Less);
-    }
-    Heads::Apart(Ordering::Greater)
+    Heads::Apart(a.cmp(&b))
 }
 
-// A prefix on the first side alone comes before whatever the other side has.
-fn meet_first(e: Dir) -> Heads
-    ensures { result ≡ meet_first (dir_rank e) }
+// A prefix on one side alone: where the other has no step 2, its head is used up; else the prefix comes first.
+fn meet_lone(other: Dir, alone: Heads, o: Ordering) -> Heads
+    ensures { result ≡ meet_lone (dir_rank other) alone o }
 {
-    if dir_rank(e) == 0 {
-        return Heads::First;
+    if dir_rank(other) == 0 {
+        return alone;
     }
-    Heads::Apart(Ordering::Less)
-}
-
-fn meet_second(d: Dir) -> Heads
-    ensures { result ≡ meet_second (dir_rank d) }
-{
-    if dir_rank(d) == 0 {
-        return Heads::Second;
-    }
-    Heads::Apart(Ordering::Greater)
+    Heads::Apart(o)
 }
 
 // A prefix on both sides.
@@ -265,19 +193,11 @@ fn meet_prefixes(s: &[u8], g: Start, t: &[u8], h: Start) -> Heads
     requires { NamesIn s.now (parsed_figures g.prefix) × NamesIn t.now (parsed_figures h.prefix) }
     ensures { result ≡ meet_then (cmp_value (prefix_value s.now (parsed_figures g.prefix)) (prefix_value t.now (parsed_figures h.prefix))) (meet (dir_values (dir_rank g.dir)) (dir_values (dir_rank h.dir))) }
 {
-    let p = g.prefix;
-    let q = h.prefix;
-    let a = prefixes::figures_of(p);
-    let b = prefixes::figures_of(q);
-    let o = cmp_prefix(s, a, t, b);
-    match o {
-        Ordering::Less => Heads::Apart(Ordering::Less),
-        Ordering::Equal => {
-            let d = g.dir;
-            let e = h.dir;
-            meet_dirs(d, e)
-        }
-        Ordering::Greater => Heads::Apart(Ordering::Greater),
+    let a = prefixes::figures_of(g.prefix);
+    let b = prefixes::figures_of(h.prefix);
+    match cmp_prefix(s, a, t, b) {
+        Ordering::Equal => meet_dirs(g.dir, h.dir),
+        o => Heads::Apart(o),
     }
 }
 
@@ -286,19 +206,11 @@ pub fn meet_heads(s: &[u8], g: Start, t: &[u8], h: Start) -> Heads
     requires { NamesIn s.now (parsed_figures g.prefix) × NamesIn t.now (parsed_figures h.prefix) }
     ensures { result ≡ meet (head_values s.now g) (head_values t.now h) }
 {
-    let p = g.prefix;
-    let q = h.prefix;
-    let d = g.dir;
-    let e = h.dir;
-    match p {
-        Parsed::Nothing => match q {
-            Parsed::Nothing => meet_dirs(d, e),
-            Parsed::Is(_) => meet_second(d),
-        },
-        Parsed::Is(_) => match q {
-            Parsed::Nothing => meet_first(e),
-            Parsed::Is(_) => meet_prefixes(s, g, t, h),
-        },
+    match (g.prefix, h.prefix) {
+        (None, None) => meet_dirs(g.dir, h.dir),
+        (None, Some(_)) => meet_lone(g.dir, Heads::Second, Ordering::Greater),
+        (Some(_), None) => meet_lone(h.dir, Heads::First, Ordering::Less),
+        (Some(_), Some(_)) => meet_prefixes(s, g, t, h),
     }
 }
 
@@ -306,64 +218,29 @@ pub fn meet_heads(s: &[u8], g: Start, t: &[u8], h: Start) -> Heads
 pub fn is_bare(g: Start, s: &[u8]) -> bool
     ensures { result ≡ is_nil (body_values g.seps s.now g.at) }
 {
-    let k = g.seps;
-    let at = g.at;
-    let p = parts::first(k, s, at);
-    match p {
-        Piece::Nothing => true,
-        Piece::Found(_) => false,
-    }
+    parts::first(g.seps, s, g.at).is_none()
 }
 
 // The order of the parts of s from i on and those of t from j on.
+#[tactic(auto, using(crate::proofs::Laws::bodies, parts::specs::Laws::walks))]
 fn walk(k: Seps, s: &[u8], i: usize, h: Seps, t: &[u8], j: usize) -> Ordering
     ensures { result ≡ cmp_values (body_values k s.now i) (body_values h t.now j) }
 {
     let mut x = i;
     let mut y = j;
     loop {
-        let p = parts::first(k, s, x);
-        let q = parts::first(h, t, y);
-        match p {
-            Piece::Nothing => match q {
-                Piece::Nothing => {
-                    return Ordering::Equal;
+        match (parts::first(k, s, x), parts::first(h, t, y)) {
+            (None, None) => return Ordering::Equal,
+            (None, Some(_)) => return Ordering::Less,
+            (Some(_), None) => return Ordering::Greater,
+            (Some(a), Some(b)) => match cmp_part(s, a, t, b) {
+                Ordering::Equal => {
+                    x = a.start + a.len + 1;
+                    y = b.start + b.len + 1;
                 }
-                Piece::Found(_) => {
-                    return Ordering::Less;
-                }
-            },
-            Piece::Found(a) => match q {
-                Piece::Nothing => {
-                    return Ordering::Greater;
-                }
-                Piece::Found(b) => {
-                    let o = cmp_part(s, a, t, b);
-                    match o {
-                        Ordering::Equal => {
-                            x = a.start + a.len + 1;
-                            y = b.start + b.len + 1;
-                        }
-                        Ordering::Less => {
-                            return Ordering::Less;
-                        }
-                        Ordering::Greater => {
-                            return Ordering::Greater;
-                        }
-                    }
-                }
+                o => return o,
             },
         }
-    }
-}
-
-fn seps_number(k: Seps) -> usize
-    ensures { result ≡ seps_number k }
-{
-    match k {
-        Seps::Unix => 0,
-        Seps::Windows => 1,
-        Seps::Verbatim => 2,
     }
 }
 
@@ -372,15 +249,13 @@ fn seam(k: Seps, s: &[u8], lo: usize, hi: usize) -> usize
     requires { hi ≤ length s.now }
     ensures { SeamAt (is_sep k) s.now lo hi result }
 {
-    let mut i = hi;
-    while lo < i {
-        let j = i - 1;
-        if octets::is_sep(k, s[j]) {
-            return i;
-        }
-        i = j;
+    if hi <= lo {
+        return lo;
     }
-    lo
+    match s[lo..hi].iter().rposition(|&b| octets::is_sep(k, b)) {
+        None => lo,
+        Some(i) => lo + i + 1,
+    }
 }
 
 // How many bytes two bodies have in common, up to a separator. Where both paths begin with the same n bytes and are read alike,
@@ -389,10 +264,8 @@ pub fn skip(k: Seps, s: &[u8], i: usize, h: Seps, t: &[u8], j: usize, n: usize) 
     requires { (i ≤ length s.now) × (j ≤ length t.now) × Differ s.now t.now n }
     ensures { SkipAt k s.now i h t.now j result }
 {
-    if i == j {
-        if seps_number(k) == seps_number(h) {
-            return seam(k, s, i, n) - i;
-        }
+    if i == j && k == h {
+        return seam(k, s, i, n) - i;
     }
     0
 }
@@ -402,12 +275,8 @@ fn cmp_bodies(s: &[u8], g: Start, t: &[u8], h: Start, n: usize) -> Ordering
     requires { (g.at ≤ length s.now) × (h.at ≤ length t.now) × Differ s.now t.now n }
     ensures { result ≡ cmp_values (body_values g.seps s.now g.at) (body_values h.seps t.now h.at) }
 {
-    let k = g.seps;
-    let i = g.at;
-    let l = h.seps;
-    let j = h.at;
-    let m = skip(k, s, i, l, t, j, n);
-    walk(k, s, i + m, l, t, j + m)
+    let m = skip(g.seps, s, g.at, h.seps, t, h.at, n);
+    walk(g.seps, s, g.at + m, h.seps, t, h.at + m)
 }
 
 // The order of two paths that begin with the same n bytes.
@@ -417,8 +286,7 @@ fn compare_behind(k: Seps, s: &[u8], t: &[u8], n: usize) -> Ordering
 {
     let g = components::begin(k, s);
     let h = components::begin(k, t);
-    let m = meet_heads(s, g, t, h);
-    match m {
+    match meet_heads(s, g, t, h) {
         Heads::Same => cmp_bodies(s, g, t, h, n),
         Heads::Apart(o) => o,
         Heads::First => {
@@ -441,10 +309,8 @@ pub fn compare(k: Seps, s: &[u8], t: &[u8]) -> Ordering
     ensures { result ≡ compare_of k s.now t.now }
 {
     let n = mismatch(s, t);
-    if n == s.len() {
-        if n == t.len() {
-            return Ordering::Equal;
-        }
+    if n == s.len() && n == t.len() {
+        return Ordering::Equal;
     }
     compare_behind(k, s, t, n)
 }

@@ -6,31 +6,31 @@ use Rattle.std.proofs.Math.Numerals.{add-one, sub-one}
 use Rattle.std.proofs.Math.Nat.{add-zero, add-suc, suc-add, add-sub_cancel_left}
 use native.Mathlib.Omega.{arith}
 use Rattle.std.proofs.Math.Path.{◌≡◌, refl, sym, ap}
+use mir.Val.{bool_byte}
 use mathlib.Core.List.{List, [], ◌∷◌, ◌++◌, append-nil}
-use Rattle.std.specs.Prelude.{Bool, true, false, take, ltb, eqb}
+use Rattle.std.specs.Prelude.{Bool, true, false, take, ltb, eqb, Option, Some, None}
 use Rattle.std.proofs.Math.ListN.{length, get_or, drop, length-drop, length-append}
-use Rattle.std.proofs.Math.Seq.{drop-drop, length-take-le, get_or-take}
-use Rattle.std.proofs.lemmas.List.{drop-append-le}
+use Rattle.std.proofs.Math.Seq.{drop-drop, length-take-le, get_or-take, take-length}
+use Rattle.std.proofs.lemmas.List.{drop-append-le, length-take, take_min}
 use Rattle.octets.specs.Segment.{lead, end_of, EndAt}
 use Rattle.octets.specs.Laws.{split, lead_short, end_more, end_out}
 use Rattle.parts.specs.declared.Component.{Component}
 use Rattle.parts.specs.declared.Component.TheVariants.{Prefix, RootDir, CurDir, ParentDir, Normal}
 use Rattle.parts.specs.declared.Element.{Element}
-use Rattle.parts.specs.declared.Item.{Item}
-use Rattle.parts.specs.declared.Item.TheVariants.{Missing, Here}
 use Rattle.parts.specs.declared.Part.{Part}
-use Rattle.parts.specs.declared.Piece.{Piece}
-use Rattle.parts.specs.declared.Piece.TheVariants.{Nothing, Found}
-use Rattle.parts.specs.declared.Back.{Back}
-use Rattle.parts.specs.declared.Back.TheVariants.{At, Left}
 use borrow.Author.Tests.{ne_eqb, eqb-true, eqb-false, lt-ltb, le-ltb, ltb-true, ltb-false}
 use Rattle.parts.specs.declared.Kind.{Kind}
 use Rattle.parts.specs.declared.Kind.TheVariants.{Dot, DotDot, Name}
-use Rattle.parts.specs.declared.Sort.{Sort}
-use Rattle.parts.specs.declared.Sort.TheVariants.{Skip, Is}
 use Rattle.parts.specs.Body.{component_of, sort_by, sort_of, put, rest, body, from, sort_at}
 use Rattle.parts.specs.Elements.{nth_of, nth_back_of, end_or, Upto}
-use Rattle.parts.specs.Steps.{lift, raised, FirstAt, Took, within, BeginAt, LastAt, TookBack, BackAt, GoesBack}
+use Rattle.parts.specs.Steps.{part_of, part_at, lift, raised, FirstAt, Took, within, BeginAt, LastAt, TookBack}
+
+-- a segment is told by its own bytes
+sort_same : (v : Bool) (n a b c d : ℕ) → (0 < n → a ≡ c) → (1 < n → b ≡ d) → sort_by v n a b ≡ sort_by v n c d
+unfolding sort_by
+sort_same v zero a b c d f g = refl
+sort_same v (suc zero) a b c d f g = rw (f (omega arith))
+sort_same v (suc (suc n)) a b c d f g = rw (f (omega arith), g (omega arith))
 
 module _ (sep : ℕ → Bool) (v : Bool) where
   -- behind the first separator stands the body of what follows it
@@ -51,10 +51,10 @@ module _ (sep : ℕ → Bool) (v : Bool) where
   unfolding from end_of
   step s i = rw (sort_lead (drop i s), rest_body i (drop i s)) (simp (get_or-drop, drop-drop, add-zero, add-one, add-suc, add-sub_cancel_left))
 
-  pub from_is : (s : List ℕ) (i e : ℕ) (q : Kind) → EndAt sep s i e → sort_at v s i e ≡ Is q → from sep v s i ≡ record { component = component_of q; start = i; len = e - i } ∷ from sep v s (i + (e - i) + 1)
+  pub from_is : (s : List ℕ) (i e : ℕ) (q : Kind) → EndAt sep s i e → sort_at v s i e ≡ Some q → from sep v s i ≡ record { component = component_of q; start = i; len = e - i } ∷ from sep v s (i + (e - i) + 1)
   from_is s i e q h g = step s i ∙ rw (← h.is, g) (rw (add-sub_of_le h.low))
 
-  pub from_skip : (s : List ℕ) (i e : ℕ) → EndAt sep s i e → sort_at v s i e ≡ Skip → from sep v s i ≡ from sep v s (e + 1)
+  pub from_skip : (s : List ℕ) (i e : ℕ) → EndAt sep s i e → sort_at v s i e ≡ None → from sep v s i ≡ from sep v s (e + 1)
   from_skip s i e h g = step s i ∙ rw (← h.is, g)
 
   pub from_end : (s : List ℕ) (i : ℕ) → length s ≤ i → from sep v s i ≡ []
@@ -62,9 +62,9 @@ module _ (sep : ℕ → Bool) (v : Bool) where
   from_end s i h = simp (drop_of_length-le s h)
 
   -- ---- there are no more parts than bytes, and one
-  put_few : (q : Sort) (i n : ℕ) (l : List Element) → length (put q i n l) ≤ suc (length l)
-  put_few Skip i n l = omega arith
-  put_few (Is k) i n l = omega arith
+  put_few : (q : Option Kind) (i n : ℕ) (l : List Element) → length (put q i n l) ≤ suc (length l)
+  put_few None i n l = omega arith
+  put_few (Some k) i n l = omega arith
 
   rest_few : (i : ℕ) (xs : List ℕ) → length (rest sep v i xs) ≤ length xs
   unfolding rest
@@ -79,10 +79,10 @@ module _ (sep : ℕ → Bool) (v : Bool) where
   few s i = omega (arith, rest_few i (drop i s), length-drop i s, put_few (sort_of v (lead sep (drop i s))) i (length (lead sep (drop i s))) (rest sep v i (drop i s)))
 
   -- ---- the parts lie in the path
-  put_upto : (m : ℕ) (q : Sort) (i n : ℕ) (l : List Element) → i + n ≤ m → Upto m l → Upto m (put q i n l)
+  put_upto : (m : ℕ) (q : Option Kind) (i n : ℕ) (l : List Element) → i + n ≤ m → Upto m l → Upto m (put q i n l)
   unfolding Upto
-  put_upto m Skip i n l h u = u
-  put_upto m (Is k) i n l h u = (h, u)
+  put_upto m None i n l h u = u
+  put_upto m (Some k) i n l h u = (h, u)
 
   rest_upto : (m i : ℕ) (xs : List ℕ) → i + length xs ≤ m → Upto m (rest sep v i xs)
   unfolding rest Upto
@@ -100,9 +100,9 @@ module _ (sep : ℕ → Bool) (v : Bool) where
       put_upto (length s) (sort_of v (lead sep (drop i s))) i (length (lead sep (drop i s))) _ (omega (arith, lead_short sep (drop i s))) (rest_upto (length s) i (drop i s) d)
 
   -- ---- a separator parts the body in two
-  put_append : (q : Sort) (i n : ℕ) (l m : List Element) → put q i n l ++ m ≡ put q i n (l ++ m)
-  put_append Skip i n l m = refl
-  put_append (Is k) i n l m = refl
+  put_append : (q : Option Kind) (i n : ℕ) (l m : List Element) → put q i n l ++ m ≡ put q i n (l ++ m)
+  put_append None i n l m = refl
+  put_append (Some k) i n l m = refl
 
   lead_seam : (r : List ℕ) (y : ℕ) (w : List ℕ) → sep y ≡ true → lead sep (r ++ y ∷ w) ≡ lead sep r
   unfolding lead
@@ -120,19 +120,19 @@ module _ (sep : ℕ → Bool) (v : Bool) where
   pub seam : (i : ℕ) (r : List ℕ) (y : ℕ) (w : List ℕ) → sep y ≡ true → body sep v i (r ++ y ∷ w) ≡ body sep v i r ++ body sep v (i + suc (length r)) w
   seam i r y w e = rw (lead_seam r y w e, rest_seam i r y w e, put_append)
 
-module _ {sep : ℕ → Bool} {v : Bool} {s : List ℕ} {i : ℕ} {r : Piece} (h : FirstAt sep v s i r) where
-  pub first_none : r ≡ Nothing → from sep v s i ≡ []
+module _ {sep : ℕ → Bool} {v : Bool} {s : List ℕ} {i : ℕ} {r : Option Part} (h : FirstAt sep v s i r) where
+  pub first_none : r ≡ None → from sep v s i ≡ []
   first_none e = rw e at h.is
 
-  pub first_found : {p : Part} → r ≡ Found p → Took sep v s i p
+  pub first_found : {p : Part} → r ≡ Some p → Took sep v s i p
   first_found e = let w = rw e at h.spans in record { is = rw e at h.is; low = w.0; high = w.1; room = w.2 }
 
 module _ {l : List Element} where
-  pub nth_none : (n : ℕ) → l ≡ [] → nth_of l n ≡ Missing
+  pub nth_none : (n : ℕ) → l ≡ [] → nth_of l n ≡ None
   unfolding nth_of
   nth_none n e = rw e
 
-  pub nth_here : {n : ℕ} {p : Element} {m : List Element} → l ≡ p ∷ m → n ≡ 0 → nth_of l n ≡ Here p
+  pub nth_here : {n : ℕ} {p : Element} {m : List Element} → l ≡ p ∷ m → n ≡ 0 → nth_of l n ≡ Some p
   unfolding nth_of
   nth_here e z = rw (e, z)
 
@@ -155,21 +155,50 @@ unfolding Upto
 upto_append m [] r u w = w
 upto_append m (p ∷ l) r u w = (u.0, upto_append m l r u.1 w)
 
--- ---- the turns of the walks: e says what the loop has kept, and the other premises are what a turn learns
+-- ---- the turns of a step: e says what the loop has kept, and the other premises are what a turn learns
+
+-- what stands before a list
+abbrev before : Option Part → List Element → List Element
+before None l = l
+before (Some p) l = lift p ∷ l
+
+put_before : (q : Option Kind) (i n : ℕ) (l : List Element) → put q i n l ≡ before (part_of q i n) l
+put_before None i n l = refl
+put_before (Some k) i n l = refl
+
+-- a segment's part lies where it does
+placed : (q : Option Kind) (i n : ℕ) (p : Part) → part_of q i n ≡ Some p → (p.start ≡ i) × (p.len ≡ n)
+placed None i n p h = let z : ◌≡◌ {A = ℕ} 0 1 = cc in absurd (omega arith)
+placed (Some k) i n p h = (cc, cc)
 
 -- `first`
-module _ (sep : ℕ → Bool) (v : Bool) (s : List ℕ) (at i : ℕ) (e : from sep v s at ≡ from sep v s i) where
-  pub first_here : (n : ℕ) (o : Sort) (q : Kind) → EndAt sep s i n → o ≡ sort_at v s i n → o ≡ Is q → at ≤ i → length s * 1 < 2 ^ 63 → FirstAt sep v s at (Found (record { kind = q; start = i; len = n - i }))
-  first_here n o q d g h l w = record { is = e ∙ from_is sep v s i n q d (sym g ∙ h); spans = (l, omega (arith, d.low, d.high), omega arith) }
+module _ (sep : ℕ → Bool) (v : Bool) (s : List ℕ) (at i n : ℕ) (o : Option Part) (g : o ≡ part_at v s i n) (d : EndAt sep s i n) (e : from sep v s at ≡ from sep v s i) where
+  turn : from sep v s at ≡ before o (from sep v s (n + 1))
+  turn = e ∙ step sep v s i ∙ rw (← d.is, put_before (sort_at v s i n) i (n - i) (from sep v s (n + 1)), g)
 
-  pub first_skip : (n : ℕ) (o : Sort) → EndAt sep s i n → o ≡ sort_at v s i n → o ≡ Skip → from sep v s at ≡ from sep v s (n + 1)
-  first_skip n o d g h = e ∙ from_skip sep v s i n d (sym g ∙ h)
+  pub first_skip : o ≡ None → from sep v s at ≡ from sep v s (n + 1)
+  first_skip h = turn ∙ ap (λ (q : Option Part). before q (from sep v s (n + 1))) h
 
-  pub first_out : length s ≤ i → FirstAt sep v s at Nothing
-  first_out h = record { is = e ∙ from_end sep v s i h; spans = tt }
+  first_on : (p : Part) → o ≡ Some p → n + 1 ≡ p.start + p.len + 1
+  first_on p h = let w = placed (sort_at v s i n) i (n - i) p (sym g ∙ h) in omega (arith, w.0, w.1, d.low)
+
+pub first_here : (sep : ℕ → Bool) (v : Bool) (s : List ℕ) (at i n : ℕ) (o : Option Part) (p : Part) → o ≡ Some p → o ≡ part_at v s i n → EndAt sep s i n → from sep v s at ≡ from sep v s i → at ≤ i → length s * 1 < 2 ^ 63 → FirstAt sep v s at (Some p)
+first_here sep v s at i n o p h g d e l w =
+    let z = placed (sort_at v s i n) i (n - i) p (sym g ∙ h) in
+    record {
+      is = turn sep v s at i n o g d e ∙ rw (h, first_on sep v s at i n o g d e p h) refl;
+      spans = (omega (arith, z.0), omega (arith, z.0, z.1, d.low, d.high), omega arith);
+    }
+
+-- a step on leaves fewer
+pub first_less : (sep : ℕ → Bool) (v : Bool) (s : List ℕ) (at i n : ℕ) (o : Option Part) (p : Part) → o ≡ Some p → o ≡ part_at v s i n → EndAt sep s i n → from sep v s at ≡ from sep v s i → length (from sep v s (n + 1)) < length (from sep v s at)
+first_less sep v s at i n o p h g d e = omega (arith, ap length (turn sep v s at i n o g d e ∙ ap (λ (q : Option Part). before q (from sep v s (n + 1))) h))
+
+pub first_out : (sep : ℕ → Bool) (v : Bool) (s : List ℕ) (at i : ℕ) → from sep v s at ≡ from sep v s i → length s ≤ i → FirstAt sep v s at None
+first_out sep v s at i e h = record { is = e ∙ from_end sep v s i h; spans = tt }
 
 -- what a walk on by `first` learns: the next place fits, and is further on
-module _ (sep : ℕ → Bool) (v : Bool) (s : List ℕ) (i : ℕ) (r : Piece) (p : Part) (f : FirstAt sep v s i r) (g : r ≡ Found p) where
+module _ (sep : ℕ → Bool) (v : Bool) (s : List ℕ) (i : ℕ) (r : Option Part) (p : Part) (f : FirstAt sep v s i r) (g : r ≡ Some p) where
   pub end_fits : Fits w64 (p.start + p.len)
   end_fits = let t = first_found f g in record { fits = omega arith }
 
@@ -181,39 +210,6 @@ module _ (sep : ℕ → Bool) (v : Bool) (s : List ℕ) (i : ℕ) (r : Piece) (p
 
   pub walk_falls : length s + 1 - (p.start + p.len + 1) < length s + 1 - i
   walk_falls = let t = first_found f g in omega arith
-
--- `count`, `nth`: a turn reads the segment from i to e
-module _ (sep : ℕ → Bool) (v : Bool) (s : List ℕ) (i e : ℕ) (o : Sort) (d : EndAt sep s i e) (g : o ≡ sort_at v s i e) where
-  turn : from sep v s i ≡ put o i (e - i) (from sep v s (e + 1))
-  turn = step sep v s i ∙ rw (← d.is, ← g)
-
-  turn_is : (q : Kind) → o ≡ Is q → from sep v s i ≡ record { component = component_of q; start = i; len = e - i } ∷ from sep v s (e + 1)
-  turn_is q h = turn ∙ rw h
-
-  turn_skip : o ≡ Skip → from sep v s i ≡ from sep v s (e + 1)
-  turn_skip h = turn ∙ rw h
-
-  pub count_is : (n m : ℕ) (q : Kind) → n + length (from sep v s i) ≡ m → o ≡ Is q → n + 1 + length (from sep v s (e + 1)) ≡ m
-  count_is n m q k h = omega (arith, ap length (turn_is q h))
-
-  pub count_skip : (n m : ℕ) → n + length (from sep v s i) ≡ m → o ≡ Skip → n + length (from sep v s (e + 1)) ≡ m
-  count_skip n m k h = omega (arith, ap length (turn_skip h))
-
-  pub nth_this : (x : Item) (n : ℕ) (q : Kind) → x ≡ nth_of (from sep v s i) n → o ≡ Is q → n ≡ 0 → Here (record { component = component_of q; start = i; len = e - i }) ≡ x
-  nth_this x n q k h z = sym (k ∙ nth_here (turn_is q h) z)
-
-  pub nth_on : (x : Item) (n : ℕ) (q : Kind) → x ≡ nth_of (from sep v s i) n → o ≡ Is q → (n ≡ 0 → ⊥) → x ≡ nth_of (from sep v s (e + 1)) (n - 1)
-  nth_on x n q k h z = k ∙ nth_step (turn_is q h) z
-
-  pub nth_skip : (x : Item) (n : ℕ) → x ≡ nth_of (from sep v s i) n → o ≡ Skip → x ≡ nth_of (from sep v s (e + 1)) n
-  nth_skip x n k h = k ∙ rw (turn_skip h)
-
-module _ (sep : ℕ → Bool) (v : Bool) (s : List ℕ) (i : ℕ) where
-  pub nth_out : (x : Item) (n : ℕ) → x ≡ nth_of (from sep v s i) n → length s ≤ i → Missing ≡ x
-  nth_out x n k h = sym (k ∙ nth_none n (from_end sep v s i h))
-
-  pub count_out : (n m : ℕ) → n + length (from sep v s i) ≡ m → length s ≤ i → n ≡ m
-  count_out n m k h = omega (arith, ap length (from_end sep v s i h))
 
 -- ---- from the back
 
@@ -237,19 +233,12 @@ module _ (sep : ℕ → Bool) (v : Bool) (s : List ℕ) where
   unfolding within
   within_none lo hi h c = from_end sep v (take hi s) lo (omega (arith, length-take-le hi s c))
 
-  -- the last segment is told by the bytes of the whole
-  sort_same : (n a b c d : ℕ) → (0 < n → a ≡ c) → (1 < n → b ≡ d) → sort_by v n a b ≡ sort_by v n c d
-  unfolding sort_by
-  sort_same zero a b c d f g = refl
-  sort_same (suc zero) a b c d f g = rw (f (omega arith))
-  sort_same (suc (suc n)) a b c d f g = rw (f (omega arith), g (omega arith))
-
   -- the list of a segment alone
   pub alone : (i hi : ℕ) → hi ≤ length s → i ≤ hi → end_of sep (take hi s) i ≡ hi → within sep v s i hi ≡ put (sort_at v s i hi) i (hi - i) []
   unfolding within
   alone i hi c h e =
       step sep v (take hi s) i
-      ∙ rw (e, from_end sep v (take hi s) (hi + 1) (omega (arith, length-take-le hi s c)), sort_same (hi - i) (get_or (take hi s) i 0) (get_or (take hi s) (i + 1) 0) (get_or s i 0) (get_or s (i + 1) 0) (λ l. get_or-take hi s i 0 (omega arith)) (λ l. get_or-take hi s (i + 1) 0 (omega arith)))
+      ∙ rw (e, from_end sep v (take hi s) (hi + 1) (omega (arith, length-take-le hi s c)), sort_same v (hi - i) (get_or (take hi s) i 0) (get_or (take hi s) (i + 1) 0) (get_or s i 0) (get_or s (i + 1) 0) (λ l. get_or-take hi s i 0 (omega arith)) (λ l. get_or-take hi s (i + 1) 0 (omega arith)))
 
   -- before a segment stands what stands before the separator ahead of it
   pub ahead : (lo i : ℕ) → lo < i → i ≤ length s → sep (get_or s (i - 1) 0) ≡ true → within sep v s lo i ≡ within sep v s lo (i - 1)
@@ -284,30 +273,63 @@ module _ (sep : ℕ → Bool) (s : List ℕ) (lo hi i : ℕ) (e : end_of sep (ta
   pub begin_out : lo ≤ i → i ≤ lo → BeginAt sep s lo hi i
   begin_out l g = record { low = l; high = h; clear = e; edge = inl (omega arith) }
 
--- `last`: e says that nothing stands between hi and top
-module _ (sep : ℕ → Bool) (v : Bool) (s : List ℕ) (lo top hi : ℕ) (e : within sep v s lo top ≡ within sep v s lo hi) (m : hi ≤ top) (d : top ≤ length s) where
-  pub back_out : hi ≤ lo → LastAt sep v s lo top Nothing
-  back_out h = record { is = e ∙ within_none sep v s lo hi h (omega arith); spans = tt }
+-- before a segment stands what stands before the separator ahead of it, if one does
+cut_same : (sep : ℕ → Bool) (v : Bool) (s : List ℕ) (lo hi i : ℕ) → BeginAt sep s lo hi i → hi ≤ length s → (c : ℕ) → c ≡ bool_byte (ltb lo i) → within sep v s lo i ≡ within sep v s lo (i - c)
+cut_same sep v s lo hi i b d c f =
+    split (ltb lo i)
+    (λ t. let l = ltb-true lo i t in
+    let n : i - c ≡ i - 1 = rw (f, t) refl in
+    rw n (⊎_elim (λ w. absurd (omega (arith, w))) (λ w. ahead sep v s lo i l (omega (arith, b.high)) w.1) b.edge))
+    (λ t. let n : i - c ≡ i = rw (f, t) (omega arith) in rw n refl)
 
-  module _ (i : ℕ) (o : Sort) (b : BeginAt sep s lo hi i) (g : o ≡ sort_at v s i hi) where
-    here : within sep v s lo top ≡ within sep v s lo i ++ put o i (hi - i) []
-    here = e ∙ seam_at sep v s lo i hi (omega arith) b ∙ rw (g, alone sep v s i hi (omega arith) b.high b.clear)
+-- `next_back`: e says that nothing stands between hi and top, and c takes the separator ahead of a segment away
+module _ (sep : ℕ → Bool) (v : Bool) (s : List ℕ) (lo top hi i : ℕ) (o : Option Part) (g : o ≡ part_at v s i hi) (b : BeginAt sep s lo hi i) (e : within sep v s lo top ≡ within sep v s lo hi) (m : hi ≤ top) (d : top ≤ length s) where
+  here : within sep v s lo top ≡ within sep v s lo i ++ before o []
+  here =
+      e ∙ seam_at sep v s lo i hi (omega arith) b
+      ∙ rw (alone sep v s i hi (omega arith) b.high b.clear, put_before (sort_at v s i hi) i (hi - i) [], g)
 
-    pub back_here : (q : Kind) → o ≡ Is q → length s * 1 < 2 ^ 63 → LastAt sep v s lo top (Found (record { kind = q; start = i; len = hi - i }))
-    back_here q h w = record { is = here ∙ rw h; spans = (b.low, omega (arith, b.high), d, omega arith) }
+  pub back_here : (p : Part) → o ≡ Some p → length s * 1 < 2 ^ 63 → LastAt sep v s lo top (Some p)
+  back_here p h w =
+      let z = placed (sort_at v s i hi) i (hi - i) p (sym g ∙ h) in
+      record { is = here ∙ rw (h, z.0) refl; spans = (omega (arith, z.0, b.low), omega (arith, z.0, z.1, b.high), d, omega arith) }
 
-    pub back_skip : o ≡ Skip → lo < i → within sep v s lo top ≡ within sep v s lo (i - 1)
-    back_skip h l =
-        here ∙ rw (h, append-nil) (⊎_elim (λ w. absurd (omega (arith, w))) (λ w. ahead sep v s lo i l (omega (arith, b.high)) w.1) b.edge)
+  pub back_skip : (c : ℕ) → c ≡ bool_byte (ltb lo i) → o ≡ None → within sep v s lo top ≡ within sep v s lo (i - c)
+  back_skip c f h = here ∙ rw (h, append-nil) (cut_same sep v s lo hi i b (omega arith) c f)
 
-    pub back_first : o ≡ Skip → i ≤ lo → LastAt sep v s lo top Nothing
-    back_first h l = record { is = here ∙ rw (h, append-nil) (within_none sep v s lo i l (omega (arith, b.high))); spans = tt }
+-- what a step back cuts off
+module _ (sep : ℕ → Bool) (v : Bool) (s : List ℕ) (lo hi i c : ℕ) (o : Option Part) (p : Part) (h : o ≡ Some p) (g : o ≡ part_at v s i hi) (b : BeginAt sep s lo hi i) (f : c ≡ bool_byte (ltb lo i)) (m : hi ≤ length s) where
+  pub cut_high : length (take (i - c) s) ≤ p.start
+  cut_high =
+      let z = placed (sort_at v s i hi) i (hi - i) p (sym g ∙ h) in
+      omega (arith, z.0, length-take-le (i - c) s (omega (arith, b.high)))
 
-module _ {sep : ℕ → Bool} {v : Bool} {s : List ℕ} {lo hi : ℕ} {r : Piece} (h : LastAt sep v s lo hi r) where
-  pub last_none : r ≡ Nothing → within sep v s lo hi ≡ []
+  pub cut_is : from sep v (take (i - c) s) lo ≡ within sep v s lo p.start
+  unfolding within
+  cut_is =
+      let z = placed (sort_at v s i hi) i (hi - i) p (sym g ∙ h) in
+      rw (z.0) (sym (cut_same sep v s lo hi i b m c f))
+
+  -- it leaves fewer
+  pub last_less : within sep v s lo (length s) ≡ within sep v s lo hi → length (from sep v (take (i - c) s) lo) < length (from sep v s lo)
+  unfolding within
+  last_less e =
+      let w : within sep v s lo (length s) ≡ within sep v s lo i ++ (lift p ∷ []) = here sep v s lo (length s) hi i o g b e m (omega arith) ∙ rw h refl in
+      let k = cut_same sep v s lo hi i b m c f in
+      let y : from sep v (take (length s) s) lo ≡ from sep v s lo = rw (take-length s) refl in
+      omega (arith, ap length w, length-append (within sep v s lo i) (lift p ∷ []), ap length k, ap length y)
+
+pub take_same : (n : ℕ) (s w : List ℕ) → w ≡ take n s → w ≡ take (length w) s
+take_same n s w e = e ∙ sym (take_min n s) ∙ rw (e, length-take n s) refl
+
+pub back_out : (sep : ℕ → Bool) (v : Bool) (s : List ℕ) (lo top hi : ℕ) → within sep v s lo top ≡ within sep v s lo hi → hi ≤ top → top ≤ length s → hi ≤ lo → LastAt sep v s lo top None
+back_out sep v s lo top hi e m d h = record { is = e ∙ within_none sep v s lo hi h (omega arith); spans = tt }
+
+module _ {sep : ℕ → Bool} {v : Bool} {s : List ℕ} {lo hi : ℕ} {r : Option Part} (h : LastAt sep v s lo hi r) where
+  pub last_none : r ≡ None → within sep v s lo hi ≡ []
   last_none e = rw e at h.is
 
-  pub last_found : {p : Part} → r ≡ Found p → TookBack sep v s lo hi p
+  pub last_found : {p : Part} → r ≡ Some p → TookBack sep v s lo hi p
   last_found e = let w = rw e at h.spans in record { is = rw e at h.is; low = w.0; high = w.1; inside = w.2; room = w.3 }
 
 -- the element that has b others behind it, of a list that ends in p
@@ -347,7 +369,7 @@ module _ (l m : List Element) (b : ℕ) where
       simp (le-ltb (b - length m) (length l) g, le-ltb b (length (l ++ m)) (omega arith)))
 
 -- no element past the end; one before it
-pub back_past : (l : List Element) (b : ℕ) → length l ≤ b → nth_back_of l b ≡ Missing
+pub back_past : (l : List Element) (b : ℕ) → length l ≤ b → nth_back_of l b ≡ None
 unfolding nth_back_of
 back_past l b h = simp (le-ltb b (length l) h)
 
@@ -355,43 +377,43 @@ pub back_nth : (l : List Element) (b : ℕ) → b < length l → nth_back_of l b
 unfolding nth_back_of
 back_nth l b h = simp (lt-ltb b (length l) h)
 
-pub nth_past : (l : List Element) (f : ℕ) → length l ≤ f → nth_of l f ≡ Missing
+pub nth_past : (l : List Element) (f : ℕ) → length l ≤ f → nth_of l f ≡ None
 unfolding nth_of
 nth_past [] f h = refl
 nth_past (p ∷ l) zero h = absurd (omega arith)
 nth_past (p ∷ l) (suc f) h = nth_past l f (omega arith)
 
-nth_full : (l : List Element) (f : ℕ) → f < length l → nth_of l f ≡ Missing → ⊥
+nth_full : (l : List Element) (f : ℕ) → f < length l → nth_of l f ≡ None → ⊥
 unfolding nth_of
 nth_full [] f h e = absurd (omega arith)
 nth_full (p ∷ l) zero h e = let z : ◌≡◌ {A = ℕ} 0 1 = cc in absurd (omega arith)
 nth_full (p ∷ l) (suc f) h e = nth_full l f (omega arith) e
 
-pub back_missing : (l : List Element) (b : ℕ) → nth_back_of l b ≡ Missing → length l ≤ b
+pub back_missing : (l : List Element) (b : ℕ) → nth_back_of l b ≡ None → length l ≤ b
 back_missing l b e =
     split (ltb b (length l))
     (λ t. let h = ltb-true b (length l) t in absurd (nth_full l (length l - 1 - b) (omega arith) (sym (back_nth l b h) ∙ e)))
     (λ t. ltb-false b (length l) t)
 
-pub nth_inside : (l : List Element) (f : ℕ) {p : Element} → nth_of l f ≡ Here p → f < length l
+pub nth_inside : (l : List Element) (f : ℕ) {p : Element} → nth_of l f ≡ Some p → f < length l
 nth_inside l f {p} h =
     split (ltb f (length l))
     (λ t. ltb-true f (length l) t)
-    (λ t. let e : Missing ≡ Here p = sym (nth_past l f (ltb-false f (length l) t)) ∙ h in let z : ◌≡◌ {A = ℕ} 0 1 = cc in absurd (omega arith))
+    (λ t. let e : None ≡ Some p = sym (nth_past l f (ltb-false f (length l) t)) ∙ h in let z : ◌≡◌ {A = ℕ} 0 1 = cc in absurd (omega arith))
 
-pub back_inside_of : (l : List Element) (b : ℕ) {p : Element} → nth_back_of l b ≡ Here p → b < length l
+pub back_inside_of : (l : List Element) (b : ℕ) {p : Element} → nth_back_of l b ≡ Some p → b < length l
 back_inside_of l b {p} h =
     split (ltb b (length l))
     (λ t. ltb-true b (length l) t)
-    (λ t. let e : Missing ≡ Here p = sym (back_past l b (ltb-false b (length l) t)) ∙ h in let z : ◌≡◌ {A = ℕ} 0 1 = cc in absurd (omega arith))
+    (λ t. let e : None ≡ Some p = sym (back_past l b (ltb-false b (length l) t)) ∙ h in let z : ◌≡◌ {A = ℕ} 0 1 = cc in absurd (omega arith))
 
-nth_seam : (l : List Element) (p : Element) → nth_of (l ++ (p ∷ [])) (length l) ≡ Here p
+nth_seam : (l : List Element) (p : Element) → nth_of (l ++ (p ∷ [])) (length l) ≡ Some p
 unfolding nth_of
 nth_seam [] p = refl
 nth_seam (q ∷ l) p = nth_seam l p
 
 module _ (m l : List Element) (p : Element) (e : m ≡ l ++ (p ∷ [])) where
-  pub back_last : nth_back_of m 0 ≡ Here p
+  pub back_last : nth_back_of m 0 ≡ Some p
   unfolding nth_back_of
   back_last =
       let n : length m ≡ length l + 1 = ap length e ∙ length-append l (p ∷ []) in
@@ -407,125 +429,76 @@ module _ (m l : List Element) (p : Element) (e : m ≡ l ++ (p ∷ [])) where
       (λ t. let h = ltb-true b (length l) t in simp (lt-ltb b (length l) h, lt-ltb (b + 1) (length m) (omega arith), k) (rw e (nth_append l (p ∷ []) (length l - 1 - b) (omega arith))))
       (λ t. let h = ltb-false b (length l) t in simp (le-ltb b (length l) h, le-ltb (b + 1) (length m) (omega arith)))
 
-pub back_none : (m : List Element) (b : ℕ) → m ≡ [] → nth_back_of m b ≡ Missing
+pub back_none : (m : List Element) (b : ℕ) → m ≡ [] → nth_back_of m b ≡ None
 unfolding nth_back_of
 back_none m b e = rw e (simp (le-ltb b 0 (omega arith)))
 
 -- what a walk back by `last` learns
-module _ (sep : ℕ → Bool) (v : Bool) (s : List ℕ) (lo hi : ℕ) (r : Piece) (f : LastAt sep v s lo hi r) where
-  pub back_inside : (p : Part) → r ≡ Found p → p.start ≤ length s
+module _ (sep : ℕ → Bool) (v : Bool) (s : List ℕ) (lo hi : ℕ) (r : Option Part) (f : LastAt sep v s lo hi r) where
+  pub back_inside : (p : Part) → r ≡ Some p → p.start ≤ length s
   back_inside p g = let t = last_found f g in omega arith
 
   -- a measure: the list before a part is shorter
-  pub back_falls : (p : Part) → r ≡ Found p → length (within sep v s lo p.start) < length (within sep v s lo hi)
+  pub back_falls : (p : Part) → r ≡ Some p → length (within sep v s lo p.start) < length (within sep v s lo hi)
   back_falls p g = omega (arith, ap length (last_found f g).is, length-append (within sep v s lo p.start) (lift p ∷ []))
 
   -- two answers coincide: each is the list's last element
   pub last_one : raised r ≡ nth_back_of (within sep v s lo hi) 0
   last_one = go r f
     where
-      go : (r : Piece) → LastAt sep v s lo hi r → raised r ≡ nth_back_of (within sep v s lo hi) 0
-      go Nothing f = sym (back_none (within sep v s lo hi) 0 f.is)
-      go (Found p) f = sym (back_last (within sep v s lo hi) (within sep v s lo p.start) (lift p) f.is)
+      go : (r : Option Part) → LastAt sep v s lo hi r → raised r ≡ nth_back_of (within sep v s lo hi) 0
+      go None f = sym (back_none (within sep v s lo hi) 0 f.is)
+      go (Some p) f = sym (back_last (within sep v s lo hi) (within sep v s lo p.start) (lift p) f.is)
 
--- `walk_back`: t says what the loop has kept, n parts to go from hi
-module _ (l : List Element) (b : ℕ) (sep : ℕ → Bool) (v : Bool) (s : List ℕ) (lo hi n : ℕ) (t : GoesBack l b (within sep v s lo hi) n) (c : hi ≤ length s) where
-  pub walk_out : hi ≤ lo → length l + n ≡ b
-  walk_out h = omega (arith, t.left, ap length (within_none sep v s lo hi h c))
+-- `next`, `next_back`, and what callers' walks by `first` and `last` learn
+pub ruleset firsts = (first_here, first_less, first_skip, first_out)
 
-  module _ (i : ℕ) (o : Sort) (d : BeginAt sep s lo hi i) (g : o ≡ sort_at v s i hi) where
-    upto : within sep v s lo hi ≡ within sep v s lo i ++ put o i (hi - i) []
-    upto = here sep v s lo hi hi refl (omega arith) c i o d g
+pub ruleset lasts = (back_out, back_here, back_skip, cut_high, cut_is, last_less, take_same)
 
-    none : i ≡ lo → within sep v s lo i ≡ []
-    none e = within_none sep v s lo i (omega arith) (omega (arith, d.high))
+pub ruleset walks = (back_inside, back_falls, end_fits, next_fits, part_in, walk_falls)
 
-    past : (i ≡ lo → ⊥) → within sep v s lo i ≡ within sep v s lo (i - 1)
-    past e = ⊎_elim (λ w. absurd (e w)) (λ w. ahead sep v s lo i w.0 (omega (arith, d.high)) w.1) d.edge
+-- `part_at`: the segment from i to e, cut out of the path
+pub sort_part : (v : Bool) (s : List ℕ) (i e : ℕ) (o : Option Kind) → i ≤ e → e ≤ length s → o ≡ sort_of v (take (e - i) (drop i s)) → o ≡ sort_at v s i e
+sort_part v s i e o l h g =
+    let n : length (take (e - i) (drop i s)) ≡ e - i = length-take-le (e - i) (drop i s) (omega (arith, length-drop i s)) in
+    g ∙ rw n (sort_same v (e - i) _ _ _ _ (λ u. get_or-take (e - i) (drop i s) 0 0 u ∙ get_or-drop i s 0 0 ∙ rw add-zero) (λ u. get_or-take (e - i) (drop i s) 1 0 u ∙ get_or-drop i s 1 0))
 
-    module _ (q : Kind) (h : o ≡ Is q) where
-      part : Element
-      part = record { component = component_of q; start = i; len = hi - i }
-
-      parted_at : within sep v s lo hi ≡ within sep v s lo i ++ (part ∷ [])
-      unfolding part
-      parted_at = upto ∙ rw h
-
-      long : length (within sep v s lo hi) ≡ length (within sep v s lo i) + 1
-      long = ap length parted_at ∙ length-append (within sep v s lo i) (part ∷ [])
-
-      pub walk_this : n ≡ 0 → Here (record { component = component_of q; start = i; len = hi - i }) ≡ nth_back_of l b
-      unfolding part
-      walk_this z = sym (t.same ∙ rw z (back_last (within sep v s lo hi) (within sep v s lo i) part parted_at))
-
-      pub walk_end : (n ≡ 0 → ⊥) → i ≡ lo → length l + (n - 1) ≡ b
-      walk_end z e = omega (arith, t.left, long, ap length (none e))
-
-      pub walk_on : (n ≡ 0 → ⊥) → (i ≡ lo → ⊥) → GoesBack l b (within sep v s lo (i - 1)) (n - 1)
-      walk_on z e =
-          let m : n ≡ n - 1 + 1 = omega arith in
-          record {
-            same = t.same ∙ ap (nth_back_of (within sep v s lo hi)) m ∙ back_on (within sep v s lo hi) (within sep v s lo i) part parted_at (n - 1) ∙ rw (past e);
-            left = omega (arith, t.left, long, ap length (past e));
-          }
-
-    module _ (h : o ≡ Skip) where
-      same_list : within sep v s lo hi ≡ within sep v s lo i
-      same_list = upto ∙ rw (h, append-nil)
-
-      pub walk_first : i ≡ lo → length l + n ≡ b
-      walk_first e = omega (arith, t.left, ap length same_list, ap length (none e))
-
-      pub walk_skip : (i ≡ lo → ⊥) → GoesBack l b (within sep v s lo (i - 1)) n
-      walk_skip e = rw (← past e, ← same_list) t
-
-pub behind_all : (l : List Element) (b : ℕ) → GoesBack l b l b
-behind_all l b = record { same = refl; left = refl }
-
--- `nth_back`
-module _ (l : List Element) (b : ℕ) (w : Back) (h : BackAt l b w) where
-  pub back_at : (p : Part) → w ≡ At p → Here (lift p) ≡ nth_back_of l b
-  back_at p e = rw e at h
-
-  pub back_over : (n : ℕ) → w ≡ Left n → Missing ≡ nth_back_of l b
-  back_over n e = let t : length l + n ≡ b = rw e at h in sym (back_past l b (omega arith))
-
-pub ruleset walks = (back_inside, back_falls, walk_out, walk_this, walk_end, walk_on, walk_first, walk_skip, behind_all, back_at, back_over, begin_start, begin_here, begin_more, begin_out, back_out, back_here, back_skip, back_first, first_here, first_skip, first_out, end_fits, next_fits, part_in, walk_falls, nth_out, nth_this, nth_on, nth_skip, count_is, count_skip, count_out)
-
--- `sort_at`: t is what `dot_counts` answered
+-- `sort_of`: t is what `dot_counts` answered
 module _ (v : Bool) (n a b : ℕ) where
-  pub sort_none : n ≡ 0 → Skip ≡ sort_by v n a b
+  pub sort_none : n ≡ 0 → None ≡ sort_by v n a b
   unfolding sort_by
   sort_none e = rw e
 
-  pub sort_dot : (t : Bool) → n ≡ 1 → a ≡ 46 → t ≡ v → t ≡ true → Is Dot ≡ sort_by v n a b
+  pub sort_dot : (t : Bool) → n ≡ 1 → a ≡ 46 → t ≡ v → t ≡ true → Some Dot ≡ sort_by v n a b
   unfolding sort_by
   sort_dot t e f g h = rw (e, f, ← g, h)
 
-  pub sort_skip : (t : Bool) → n ≡ 1 → a ≡ 46 → t ≡ v → t ≡ false → Skip ≡ sort_by v n a b
+  pub sort_skip : (t : Bool) → n ≡ 1 → a ≡ 46 → t ≡ v → t ≡ false → None ≡ sort_by v n a b
   unfolding sort_by
   sort_skip t e f g h = rw (e, f, ← g, h)
 
-  pub sort_parent : n ≡ 2 → a ≡ 46 → b ≡ 46 → Is DotDot ≡ sort_by v n a b
+  pub sort_parent : n ≡ 2 → a ≡ 46 → b ≡ 46 → Some DotDot ≡ sort_by v n a b
   unfolding sort_by
   sort_parent e f g = rw (e, f, g)
 
-  pub sort_two : n ≡ 2 → a ≡ 46 → (b ≡ 46 → ⊥) → Is Name ≡ sort_by v n a b
+  pub sort_two : n ≡ 2 → a ≡ 46 → (b ≡ 46 → ⊥) → Some Name ≡ sort_by v n a b
   unfolding sort_by
   sort_two e f g = simp (e, f, ne_eqb b 46 g)
 
-  pub sort_long : (n ≡ 0 → ⊥) → (n ≡ 1 → ⊥) → (n ≡ 2 → ⊥) → a ≡ 46 → Is Name ≡ sort_by v n a b
+  pub sort_long : (n ≡ 0 → ⊥) → (n ≡ 1 → ⊥) → (n ≡ 2 → ⊥) → a ≡ 46 → Some Name ≡ sort_by v n a b
   unfolding sort_by
   sort_long x y z f = simp (ne_eqb n 0 x, ne_eqb n 1 y, ne_eqb n 2 z, f)
 
-  pub sort_plain : (n ≡ 0 → ⊥) → (a ≡ 46 → ⊥) → Is Name ≡ sort_by v n a b
+  pub sort_plain : (n ≡ 0 → ⊥) → (a ≡ 46 → ⊥) → Some Name ≡ sort_by v n a b
   unfolding sort_by
   sort_plain x f = simp (ne_eqb n 0 x, ne_eqb a 46 f)
 
-pub ruleset sorts = (sort_none, sort_dot, sort_skip, sort_parent, sort_two, sort_long, sort_plain)
+pub ruleset begins = (begin_start, begin_here, begin_more, begin_out)
+
+pub ruleset sorts = (sort_part, sort_none, sort_dot, sort_skip, sort_parent, sort_two, sort_long, sort_plain)
 
 -- `lifted`
-pub lift_is : (r : Piece) (p : Part) (x : Component) → r ≡ Found p → x ≡ component_of p.kind → Here (record { component = x; start = p.start; len = p.len }) ≡ raised r
+pub lift_is : (r : Option Part) (p : Part) (x : Component) → r ≡ Some p → x ≡ component_of p.kind → Some (record { component = x; start = p.start; len = p.len }) ≡ raised r
 lift_is r p x e f = rw (e, f)
 
 pub ruleset lifts = (lift_is)
@@ -550,9 +523,9 @@ Goods sep v s [] = Unit
 Goods sep v s (x ∷ l) = Good sep v s x × Goods sep v s l
 
 -- a segment of n bytes that is a part has one, and its kind fits
-abbrev Sorted : Bool → ℕ → Sort → Type 0
-Sorted v n Skip = Unit
-Sorted v n (Is k) = (0 < n) × Bodily v (component_of k)
+abbrev Sorted : Bool → ℕ → Option Kind → Type 0
+Sorted v n None = Unit
+Sorted v n (Some k) = (0 < n) × Bodily v (component_of k)
 
 sorted : (v : Bool) (n a b : ℕ) → Sorted v n (sort_by v n a b)
 unfolding sort_by
@@ -573,10 +546,10 @@ module _ (sep : ℕ → Bool) where
 
   module _ (v : Bool) (s : List ℕ) where
     -- the segment at place i, where xs stands, before good elements
-    put_good : (i : ℕ) (xs : List ℕ) (l : List Element) → drop i s ≡ xs → Goods sep v s l → (q : Sort) → Sorted v (length (lead sep xs)) q → Goods sep v s (put q i (length (lead sep xs)) l)
+    put_good : (i : ℕ) (xs : List ℕ) (l : List Element) → drop i s ≡ xs → Goods sep v s l → (q : Option Kind) → Sorted v (length (lead sep xs)) q → Goods sep v s (put q i (length (lead sep xs)) l)
     unfolding Goods
-    put_good i xs l e u Skip h = u
-    put_good i xs l e u (Is k) h = (
+    put_good i xs l e u None h = u
+    put_good i xs l e u (Some k) h = (
       record {
         some = h.0;
         inside = omega (arith, h.0, lead_short sep xs, ap length e, length-drop i s);
@@ -603,7 +576,7 @@ module _ (sep : ℕ → Bool) where
     from_good i = segment_good i (drop i s) _ refl (rest_good i (drop i s) refl)
 
     -- an element of good ones is good
-    pub good_nth : (l : List Element) (f : ℕ) (p : Element) → Goods sep v s l → nth_of l f ≡ Here p → Good sep v s p
+    pub good_nth : (l : List Element) (f : ℕ) (p : Element) → Goods sep v s l → nth_of l f ≡ Some p → Good sep v s p
     unfolding Goods nth_of
     good_nth [] f p u e = let z : ◌≡◌ {A = ℕ} 0 1 = cc in absurd (omega arith)
     good_nth (x ∷ l) zero p u e = let z : x ≡ p = cc in rw z at u.0

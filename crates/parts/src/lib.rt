@@ -1,12 +1,13 @@
 // The body of a path: its segments in order, as components, and steps over places from either end. A step reads the
 // bytes that it passes and no others.
-#![tactic(auto)]
+#![tactic(auto, using(crate::specs::Laws::sorts, crate::specs::Runs::runs))]
 
 ghost use Rattle.std.specs.Prelude.{◌≡◌, ℕ, ◌+◌, ◌-◌, ◌<◌, ◌≤◌, length};
+ghost use Rattle.std.specs.Iterator.{item_count};
 ghost use Rattle.octets.specs.Class.{is_sep};
-ghost use Rattle.parts.specs.Body.{component_of, dots, sort_at, from};
+ghost use Rattle.parts.specs.Body.{component_of, dots, sort_of, from};
 ghost use Rattle.parts.specs.Elements.{nth_of, nth_back_of};
-ghost use Rattle.parts.specs.Steps.{is_name, raised, FirstAt, within, BeginAt, LastAt, BackAt};
+ghost use Rattle.parts.specs.Steps.{is_name, part_at, raised, FirstAt, within, BeginAt, LastAt, BackAt, parts_left, GivesFirst, GivesLast};
 
 use octets::Seps;
 use prefixes::Prefix;
@@ -29,12 +30,6 @@ pub struct Element {
     pub len: usize,
 }
 
-#[derive(Clone, Copy)]
-pub enum Item {
-    Missing,
-    Here(Element),
-}
-
 // What a segment of the body can be, `.`, `..` or a name: few enough to be handed about in a register.
 #[derive(Clone, Copy)]
 pub enum Kind {
@@ -50,26 +45,6 @@ pub struct Part {
     pub len: usize,
 }
 
-// What a segment is: no part, or a part of a kind.
-#[derive(Clone, Copy)]
-pub enum Sort {
-    Skip,
-    Is(Kind),
-}
-
-#[derive(Clone, Copy)]
-pub enum Piece {
-    Nothing,
-    Found(Part),
-}
-
-// What a walk back came to: the part, or the walk's beginning with that many parts left to go.
-#[derive(Clone, Copy)]
-pub enum Back {
-    At(Part),
-    Left(usize),
-}
-
 pub fn component_of(k: Kind) -> Component
     ensures { result ≡ component_of k }
 {
@@ -83,232 +58,191 @@ pub fn component_of(k: Kind) -> Component
 pub fn is_name(k: Kind) -> bool
     ensures { result ≡ is_name k }
 {
-    match k {
-        Kind::Dot => false,
-        Kind::DotDot => false,
-        Kind::Name => true,
-    }
+    matches!(k, Kind::Name)
 }
 
 // A part as an element of the list.
-pub fn lifted(p: Piece) -> Item
+pub fn lifted(p: Option<Part>) -> Option<Element>
     ensures { result ≡ raised p }
 {
-    match p {
-        Piece::Nothing => Item::Missing,
-        Piece::Found(q) => {
-            let kind = q.kind;
-            let component = component_of(kind);
-            Item::Here(Element {
-                component,
-                start: q.start,
-                len: q.len,
-            })
-        }
-    }
+    let q = p?;
+    Some(Element {
+        component: component_of(q.kind),
+        start: q.start,
+        len: q.len,
+    })
 }
 
 // Whether a lone dot is a part.
 fn dot_counts(k: Seps) -> bool
     ensures { result ≡ dots k }
 {
-    match k {
-        Seps::Unix => false,
-        Seps::Windows => false,
-        Seps::Verbatim => true,
+    matches!(k, Seps::Verbatim)
+}
+
+// What a segment is, if it is a part.
+fn sort_of(k: Seps, w: &[u8]) -> Option<Kind>
+    ensures { result ≡ sort_of (dots k) w.now }
+{
+    match w {
+        [] => None,
+        [b'.'] => dot_counts(k).then_some(Kind::Dot),
+        [b'.', b'.'] => Some(Kind::DotDot),
+        _ => Some(Kind::Name),
     }
 }
 
-// What the segment from `at` to `end` is.
-fn sort_at(k: Seps, s: &[u8], at: usize, end: usize) -> Sort
+// The segment from `at` to `end`, if it is a part.
+fn part_at(k: Seps, s: &[u8], at: usize, end: usize) -> Option<Part>
     requires { (at ≤ end) × (end ≤ length s.now) }
-    ensures { result ≡ sort_at (dots k) s.now at end }
+    ensures { result ≡ part_at (dots k) s.now at end }
 {
-    let len = end - at;
-    if len == 0 {
-        return Sort::Skip;
-    }
-    if s[at] == 46 {
-        if len == 1 {
-            if dot_counts(k) {
-                return Sort::Is(Kind::Dot);
-            }
-            let hidden = Sort::Skip;
-            return hidden;
+    let kind = sort_of(k, &s[at..end])?;
+    Some(Part {
+        kind,
+        start: at,
+        len: end - at,
+    })
+}
+
+// Where the segment that ends at `hi` begins: behind the last separator before it, or at `lo`. A `for`, since `rposition`,
+// which proved too, made the calls above that walk back (`ancestor`, `element_back`) take 1.1 times the time.
+#[tactic(auto, using(crate::specs::Laws::begins))]
+fn prev_sep(k: Seps, s: &[u8], lo: usize, hi: usize) -> usize
+    requires { (lo ≤ hi) × (hi ≤ length s.now) }
+    ensures { BeginAt (is_sep k) s.now lo hi result }
+{
+    for j in (lo..hi).rev() {
+        if octets::is_sep(k, s[j]) {
+            return j + 1;
         }
-        if len == 2 {
-            if s[at + 1] == 46 {
-                return Sort::Is(Kind::DotDot);
-            }
-        }
     }
-    Sort::Is(Kind::Name)
+    lo
+}
+
+// What is left of a body: the parts of `bytes` from place `at` on. It can be taken from either end. Where a segment ends
+// says where the next one begins, so each step looks with a `while`; both are inlined, since `count`, `nth` and `first`
+// take 1.2 times the time where they call one function.
+#[derive(Drop)]
+pub struct Parts<'a> {
+    seps: Seps,
+    bytes: &'a [u8],
+    at: usize,
+}
+
+impl<'a> Parts<'a> {
+    pub fn new(seps: Seps, bytes: &'a [u8], at: usize) -> Parts<'a>
+        ensures seps { result.seps ≡ seps }
+        ensures bytes { result.bytes.now ≡ bytes.now }
+        ensures at { result.at ≡ at }
+        ensures left { parts_left result ≡ from (is_sep seps) (dots seps) bytes.now at }
+    {
+        Parts { seps, bytes, at }
+    }
+}
+
+impl<'a> Iterator for Parts<'a> {
+    type Item = Part;
+
+    ghost next_gives = { GivesFirst };
+
+    ghost remaining = { item_count parts_left };
+
+    #[inline(always)]
+    #[tactic(auto, using(crate::specs::Laws::firsts))]
+    fn next(&mut self) -> Option<Part> {
+        let Parts { seps, bytes, at } = *self;
+        let mut i = at;
+        while i < bytes.len() {
+            let e = octets::next_sep(seps, bytes, i);
+            if let Some(p) = part_at(seps, bytes, i, e) {
+                *self = Parts {
+                    seps,
+                    bytes,
+                    at: e + 1,
+                };
+                return Some(p);
+            }
+            i = e + 1;
+        }
+        None
+    }
+}
+
+impl<'a> DoubleEndedIterator for Parts<'a> {
+    ghost next_back_gives = { GivesLast };
+
+    #[inline(always)]
+    #[tactic(auto, using(crate::specs::Laws::lasts, crate::specs::Runs::none_left))]
+    fn next_back(&mut self) -> Option<Part> {
+        let Parts { seps, bytes, at } = *self;
+        let mut e = bytes.len();
+        while at < e {
+            let i = prev_sep(seps, bytes, at, e);
+            let ahead = i - usize::from(at < i);
+            if let Some(p) = part_at(seps, bytes, i, e) {
+                *self = Parts {
+                    seps,
+                    bytes: &bytes[..ahead],
+                    at,
+                };
+                return Some(p);
+            }
+            e = ahead;
+        }
+        None
+    }
 }
 
 // The first part at or after `at`.
-pub fn first(k: Seps, s: &[u8], at: usize) -> Piece
+pub fn first(k: Seps, s: &[u8], at: usize) -> Option<Part>
     ensures { FirstAt (is_sep k) (dots k) s.now at result }
 {
-    let mut i = at;
-    while i < s.len() {
-        let e = octets::next_sep(k, s, i);
-        let q = sort_at(k, s, i, e);
-        match q {
-            Sort::Is(kind) => {
-                return Piece::Found(Part {
-                    kind,
-                    start: i,
-                    len: e - i,
-                });
-            }
-            Sort::Skip => {
-                i = e + 1;
-            }
-        }
-    }
-    Piece::Nothing
+    Parts::new(k, s, at).next()
 }
 
 // How many parts there are from `at` on.
 pub fn count(k: Seps, s: &[u8], at: usize) -> usize
     ensures { result ≡ length (from (is_sep k) (dots k) s.now at) }
 {
-    let mut i = at;
-    let mut n: usize = 0;
-    while i < s.len() {
-        let e = octets::next_sep(k, s, i);
-        let q = sort_at(k, s, i, e);
-        match q {
-            Sort::Is(_) => {
-                n += 1;
-                i = e + 1;
-            }
-            Sort::Skip => {
-                i = e + 1;
-            }
-        }
-    }
-    n
+    Parts::new(k, s, at).count()
 }
 
 // Part `f` of those from `at` on.
-pub fn nth(k: Seps, s: &[u8], at: usize, f: usize) -> Piece
+pub fn nth(k: Seps, s: &[u8], at: usize, f: usize) -> Option<Part>
     ensures { raised result ≡ nth_of (from (is_sep k) (dots k) s.now at) f }
 {
-    let mut i = at;
-    let mut left = f;
-    while i < s.len() {
-        let e = octets::next_sep(k, s, i);
-        let q = sort_at(k, s, i, e);
-        match q {
-            Sort::Is(kind) => {
-                if left == 0 {
-                    return Piece::Found(Part {
-                        kind,
-                        start: i,
-                        len: e - i,
-                    });
-                }
-                left -= 1;
-                i = e + 1;
-            }
-            Sort::Skip => {
-                i = e + 1;
-            }
-        }
-    }
-    Piece::Nothing
-}
-
-// Where the segment that ends at `hi` begins: behind the last separator before it, or at `lo`.
-fn prev_sep(k: Seps, s: &[u8], lo: usize, hi: usize) -> usize
-    requires { (lo ≤ hi) × (hi ≤ length s.now) }
-    ensures { BeginAt (is_sep k) s.now lo hi result }
-{
-    let mut i = hi;
-    while lo < i {
-        let j = i - 1;
-        if octets::is_sep(k, s[j]) {
-            return i;
-        }
-        i = j;
-    }
-    i
+    Parts::new(k, s, at).nth(f)
 }
 
 // The last part between `lo` and `hi`.
-#[tactic(auto, using(crate::specs::Laws::walks))]
-pub fn last(k: Seps, s: &[u8], lo: usize, hi: usize) -> Piece
+pub fn last(k: Seps, s: &[u8], lo: usize, hi: usize) -> Option<Part>
     requires { hi ≤ length s.now }
     ensures { LastAt (is_sep k) (dots k) s.now lo hi result }
 {
-    let mut e = hi;
-    while lo < e {
-        let i = prev_sep(k, s, lo, e);
-        let q = sort_at(k, s, i, e);
-        match q {
-            Sort::Is(kind) => {
-                return Piece::Found(Part {
-                    kind,
-                    start: i,
-                    len: e - i,
-                });
-            }
-            Sort::Skip => {
-                if i <= lo {
-                    return Piece::Nothing;
-                }
-                e = i - 1;
-            }
-        }
-    }
-    Piece::Nothing
+    Parts::new(k, &s[..hi], lo).next_back()
 }
 
 // `b` parts back from `hi`, no farther than `lo`: the part there, or how many of the `b` are left to go.
-pub fn walk_back(k: Seps, s: &[u8], lo: usize, hi: usize, b: usize) -> Back
+pub fn walk_back(k: Seps, s: &[u8], lo: usize, hi: usize, b: usize) -> Result<Part, usize>
     requires { hi ≤ length s.now }
     ensures { BackAt (within (is_sep k) (dots k) s.now lo hi) b result }
 {
-    let mut e = hi;
     let mut left = b;
-    while lo < e {
-        let i = prev_sep(k, s, lo, e);
-        let q = sort_at(k, s, i, e);
-        match q {
-            Sort::Is(kind) => {
-                if left == 0 {
-                    return Back::At(Part {
-                        kind,
-                        start: i,
-                        len: e - i,
-                    });
-                }
-                left -= 1;
-                if i == lo {
-                    return Back::Left(left);
-                }
-                e = i - 1;
-            }
-            Sort::Skip => {
-                if i == lo {
-                    return Back::Left(left);
-                }
-                e = i - 1;
-            }
+    let mut parts = Parts::new(k, &s[..hi], lo);
+    while let Some(p) = parts.next_back() {
+        if left == 0 {
+            return Ok(p);
         }
+        left -= 1;
     }
-    Back::Left(left)
+    Err(left)
 }
 
 // The part that has `b` others behind it, of those between `lo` and `hi`.
-pub fn nth_back(k: Seps, s: &[u8], lo: usize, hi: usize, b: usize) -> Piece
+pub fn nth_back(k: Seps, s: &[u8], lo: usize, hi: usize, b: usize) -> Option<Part>
     requires { hi ≤ length s.now }
     ensures { raised result ≡ nth_back_of (within (is_sep k) (dots k) s.now lo hi) b }
 {
-    let w = walk_back(k, s, lo, hi, b);
-    match w {
-        Back::At(p) => Piece::Found(p),
-        Back::Left(_) => Piece::Nothing,
-    }
+    Parts::new(k, &s[..hi], lo).nth_back(b)
 }

@@ -12,3 +12,5 @@ pub mod Views
 pub mod ViewLaws
 pub mod WriteLaws
 pub mod PairLaws
+pub mod Guards
+pub mod GuardLaws

@@ -1,5 +1,5 @@
 -- The counted cursor's steps and its rest. Document 01, "A cursor is the mode and two numbers".
-use Rattle.std.specs.Prelude.{ℕ, ◌+◌, List, not, length, eqb}
+use Rattle.std.specs.Prelude.{ℕ, ◌+◌, List, not, length, eqb, Option, Some, None}
 use Rattle.octets.specs.Class.{seps_of}
 use Rattle.octets.specs.declared.Seps.{Seps}
 use Rattle.answers.specs.declared.Reply.{Reply}
@@ -7,27 +7,24 @@ use Rattle.answers.specs.declared.Reply.TheVariants.{Done}
 use Rattle.answers.specs.declared.View.{View}
 use Rattle.answers.specs.Outcome.{Outcome, give, in_mode, short, taken, present}
 use Rattle.parts.specs.declared.Element.{Element}
-use Rattle.parts.specs.declared.Item.{Item}
-use Rattle.parts.specs.declared.Item.TheVariants.{Missing, Here}
 use Rattle.parts.specs.Elements.{nth_of, nth_back_of}
 use Rattle.components.specs.List.{start_of, list_of}
 use Rattle.cursors.specs.Rest.{view_of, dotted, rest_of}
 use Rattle.paths.specs.declared.steps.Cursor.{Cursor}
-use Rattle.paths.specs.declared.steps.Taken.TheVariants.{Nothing, Is}
 use Rattle.paths.specs.declared.steps.Stepped.{Stepped}
 
 -- "A refusal returns its number, all other numbers of the answer 0, the cursor as given"
 abbrev pub refused_step : Cursor → Reply → Stepped
-refused_step c r = record { reply = r; component = Nothing; start = 0; len = 0; cursor = c }
+refused_step c r = record { reply = r; component = None; start = 0; len = 0; cursor = c }
 
 -- Done: the element with its extent, and the cursor behind it
-abbrev pub took_at : Item → Cursor → Stepped
-took_at Missing c = refused_step c Done
-took_at (Here e) c = record { reply = Done; component = Is e.component; start = e.start; len = e.len; cursor = c }
+abbrev pub took_at : Option Element → Cursor → Stepped
+took_at None c = refused_step c Done
+took_at (Some e) c = record { reply = Done; component = Some e.component; start = e.start; len = e.len; cursor = c }
 
 -- a step that gives the element i of a list of n and hands back the cursor d: "more components taken than the path has"; "With
 -- f + b equal to the list's length: Absent."
-unfoldable pub step_asked : ℕ → Cursor → Item → Cursor → Outcome Stepped
+unfoldable pub step_asked : ℕ → Cursor → Option Element → Cursor → Outcome Stepped
 step_asked n c i d = taken c.front c.back n (present (not (eqb (c.front + c.back) n)) (give (took_at i d)))
 
 -- "A front step gives element f, a back step the b-th from the end, and hands back the cursor moved by one."

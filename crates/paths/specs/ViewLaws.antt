@@ -1,28 +1,23 @@
 -- Laws of the calls that answer a view of one path: one a way through each of them.
-use Rattle.std.specs.Prelude.{ℕ, ◌<◌, ◌≤◌, ◌≡◌, List, length}
+use Rattle.std.specs.Prelude.{ℕ, ◌≡◌, List, Result, Ok, Err}
 use Rattle.std.proofs.Common.{◌∙◌}
-use Rattle.octets.specs.Class.{limit, seps_of}
 use Rattle.octets.specs.declared.Seps.{Seps}
-use Rattle.answers.specs.declared.Reply.TheVariants.{Mode, Length}
 use Rattle.answers.specs.declared.View.{View}
 use Rattle.answers.specs.Reply.{refused_view}
 use Rattle.answers.specs.Outcome.{Outcome, told}
-use Rattle.answers.specs.Laws.{no_mode, too_long, all_well}
 use Rattle.views.specs.Leaves.{ViewAt}
 use Rattle.paths.specs.Views.{view_call}
+use Rattle.answers.specs.declared.Reply.{Reply}
+use Rattle.paths.specs.Guards.{accepted_one}
+use Rattle.paths.specs.GuardLaws.{one_same, one_taken, one_refused}
 
-module _ (f : Seps → List ℕ → Outcome View) (m : ℕ) (s : List ℕ) (x : View) where
-  pub view_mode : x ≡ refused_view Mode → 1 < m → x ≡ told refused_view (view_call f m s)
+module _ (f : Seps → List ℕ → Outcome View) (m : ℕ) (s : List ℕ) (x : View) (r : Result Seps Reply) (g : r ≡ accepted_one m s) where
+  pub view_refused : (e : Reply) → r ≡ Err e → x ≡ refused_view e → x ≡ told refused_view (view_call f m s)
   unfolding view_call
-  view_mode e h = no_mode refused_view _ x m e h
+  view_refused e h z = one_refused m s r g refused_view _ x e h z
 
-  module _ (g : m ≤ 1) where
-    pub view_long : x ≡ refused_view Length → limit < length s → x ≡ told refused_view (view_call f m s)
-    unfolding view_call
-    view_long e h = too_long refused_view _ x m g s e h
+  pub view_taken : (k : Seps) → r ≡ Ok k → ViewAt (f k s) s x → x ≡ told refused_view (view_call f m s)
+  unfolding view_call
+  view_taken k h a = one_taken m s r g k h refused_view _ x (a.is ∙ rw (one_same m s r g k h))
 
-    pub view_well : (k : Seps) → length s ≤ limit → k ≡ seps_of m → ViewAt (f k s) s x → x ≡ told refused_view (view_call f m s)
-    unfolding view_call
-    view_well k h e a = all_well refused_view _ x m g s (a.is ∙ rw e) h
-
-pub ruleset views = (view_mode, view_long, view_well)
+pub ruleset views = (view_refused, view_taken)

@@ -1,30 +1,26 @@
 -- Laws of the calls that make one path of two inputs, whatever they make of them.
-use Rattle.std.specs.Prelude.{ℕ, ◌<◌, ◌≤◌, ◌≡◌, List, length}
-use Rattle.octets.specs.Class.{limit, seps_of}
+use Rattle.std.specs.Prelude.{ℕ, ◌≡◌, List, Result, Ok, Err}
+use Rattle.octets.specs.Class.{seps_of}
 use Rattle.octets.specs.declared.Seps.{Seps}
-use Rattle.answers.specs.declared.Reply.TheVariants.{Mode, Length}
 use Rattle.answers.specs.declared.View.{View}
 use Rattle.answers.specs.Reply.{refused_view}
 use Rattle.answers.specs.Outcome.{Outcome}
 use Rattle.answers.specs.Written.{Wrote}
-use Rattle.buffers.specs.Laws.{wrote_mode, wrote_long, wrote_second_long, wrote_well}
 use Rattle.paths.specs.Pairs.{pair_call}
+use Rattle.answers.specs.declared.Reply.{Reply}
+use Rattle.paths.specs.Guards.{accepted_both}
+use Rattle.paths.specs.GuardLaws.{one_same, one_short, one_taken, one_refused, both_same, both_first, both_second, both_taken, both_wrote, both_refused, both_left}
 
-module _ (f : Seps → List ℕ → List ℕ → Outcome (List ℕ)) (m : ℕ) (p q : List ℕ) (a : View) (b : List ℕ) where
-  pub write_mode : 1 < m → a ≡ refused_view Mode → Wrote (pair_call f m p q) a b b
+module _ (f : Seps → List ℕ → List ℕ → Outcome (List ℕ)) (m : ℕ) (p q : List ℕ) (a : View) (b : List ℕ) (r : Result Seps Reply) (g : r ≡ accepted_both m p q) where
+  pub write_refused : (e : Reply) → r ≡ Err e → a ≡ refused_view e → Wrote (pair_call f m p q) a b b
   unfolding pair_call
-  write_mode h e = wrote_mode a b 1 m _ h e
+  write_refused e h z = both_left m p q r g _ a b e h z
 
-  pub write_long : m ≤ 1 → limit < length p → a ≡ refused_view Length → Wrote (pair_call f m p q) a b b
+  pub write_taken : (k : Seps) (after : List ℕ) → r ≡ Ok k → Wrote (f k p q) a b after → Wrote (pair_call f m p q) a b after
   unfolding pair_call
-  write_long g h e = wrote_long a b 1 m g p _ h e
+  write_taken k after h w = both_wrote m p q r g k h _ a b after (rw (one_of k h) at w)
+    where
+      one_of : (k : Seps) → r ≡ Ok k → k ≡ seps_of m
+      one_of k h = both_same m p q r g k h
 
-  pub write_second_long : m ≤ 1 → length p ≤ limit → limit < length q → a ≡ refused_view Length → Wrote (pair_call f m p q) a b b
-  unfolding pair_call
-  write_second_long g h l e = wrote_second_long a b 1 m g p h q _ l e
-
-  pub write_well : m ≤ 1 → length p ≤ limit → length q ≤ limit → (k : Seps) (after : List ℕ) → k ≡ seps_of m → Wrote (f k p q) a b after → Wrote (pair_call f m p q) a b after
-  unfolding pair_call
-  write_well g h l k after e w = wrote_well a b 1 m g p h q _ after l (rw e at w)
-
-pub ruleset writes = (write_mode, write_long, write_second_long, write_well)
+pub ruleset writes = (write_refused, write_taken, both_first, both_second)

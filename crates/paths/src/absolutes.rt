@@ -2,6 +2,7 @@
 ghost use Rattle.answers.specs.Written.{Wrote};
 ghost use Rattle.paths.specs.Absolute.{absolute_call};
 
+use crate::guards::accept_both;
 use answers::{Reply, View};
 
 // The path made absolute in the current directory cwd, at the front of out.
@@ -9,13 +10,10 @@ pub fn absolute(mode: usize, path: &[u8], cwd: &[u8], out: &mut [u8]) -> View
     ensures { Wrote (absolute_call mode path.now cwd.now) result out.old out.new }
 {
     if mode > 0 {
-        return answers::refuse_view(Reply::Mode);
+        return View::from(Reply::Mode);
     }
-    if path.len() > octets::LIMIT {
-        return answers::refuse_view(Reply::Length);
+    match accept_both(mode, path, cwd) {
+        Ok(_) => absolute::absolute(path, cwd, out),
+        Err(r) => View::from(r),
     }
-    if cwd.len() > octets::LIMIT {
-        return answers::refuse_view(Reply::Length);
-    }
-    absolute::absolute(path, cwd, out)
 }

@@ -1,8 +1,9 @@
 // The public calls. Each takes the mode as a number and any bytes, and refuses what document 01 says is refused; none has
 // a `requires`. What a call promises is its definition in specs/, a chain of guards in front of what was asked for.
-#![tactic(auto)]
+#![tactic(auto, using(crate::specs::AbsoluteLaws::absolutes, crate::specs::Laws::calls, crate::specs::PairLaws::pairs, crate::specs::StepLaws::step_calls, crate::specs::StepLaws::steps, crate::specs::TestLaws::tests, crate::specs::ViewLaws::views, crate::specs::WriteLaws::writes))]
 
 mod absolutes;
+mod guards;
 mod pairs;
 mod steps;
 mod tests;
@@ -16,10 +17,11 @@ ghost use Rattle.paths.specs.Prefix.{refused_prefix, prefix_asked, prefix_call};
 
 pub use absolutes::absolute;
 use answers::Reply;
+use guards::accept;
 use octets::Seps;
 pub use pairs::{compare, ends_with, starts_with, strip_prefix};
-use prefixes::{Parsed, Prefix};
-pub use steps::{Cursor, Stepped, Taken};
+use prefixes::Prefix;
+pub use steps::{Cursor, Stepped};
 pub use tests::{has_root, is_absolute};
 pub use view::{ancestor, extension, file_name, file_stem, parent};
 pub use writes::{join, set_extension, set_file_name};
@@ -28,17 +30,19 @@ pub use writes::{join, set_extension, set_file_name};
 #[derive(Clone, Copy)]
 pub struct Prefixed {
     pub reply: Reply,
-    pub prefix: Parsed,
+    pub prefix: Option<Prefix>,
     pub len: usize,
 }
 
-fn refuse_prefix(r: Reply) -> Prefixed
-    ensures { result ≡ refused_prefix r }
-{
-    Prefixed {
-        reply: r,
-        prefix: Parsed::Nothing,
-        len: 0,
+impl From<Reply> for Prefixed {
+    ghost from_gives = { λ r a. a ≡ refused_prefix r };
+
+    fn from(r: Reply) -> Prefixed {
+        Prefixed {
+            reply: r,
+            prefix: None,
+            len: 0,
+        }
     }
 }
 
@@ -50,36 +54,29 @@ fn windows_prefix(path: &[u8]) -> Prefixed
         let d = prefixes::to_capital(path[0]);
         return Prefixed {
             reply: Reply::Done,
-            prefix: Parsed::Is(Prefix::Disk(d)),
+            prefix: Some(Prefix::Disk(d)),
             len: 2,
         };
     }
     if components::sep_at(Seps::Windows, path, 0) {
-        let p = prefixes::parse_prefix(path);
-        return match p {
-            Parsed::Nothing => refuse_prefix(Reply::Absent),
-            Parsed::Is(q) => Prefixed {
+        return match prefixes::parse_prefix(path) {
+            None => Prefixed::from(Reply::Absent),
+            Some(q) => Prefixed {
                 reply: Reply::Done,
-                prefix: Parsed::Is(q),
+                prefix: Some(q),
                 len: prefixes::prefix_len(q),
             },
         };
     }
-    refuse_prefix(Reply::Absent)
+    Prefixed::from(Reply::Absent)
 }
 
 pub fn prefix(mode: usize, path: &[u8]) -> Prefixed
     ensures { result ≡ told refused_prefix (prefix_call mode path.now) }
 {
-    if mode > 1 {
-        return refuse_prefix(Reply::Mode);
-    }
-    if path.len() > octets::LIMIT {
-        return refuse_prefix(Reply::Length);
-    }
-    match octets::seps_of(mode) {
-        Seps::Unix => refuse_prefix(Reply::Absent),
-        Seps::Windows => windows_prefix(path),
-        Seps::Verbatim => refuse_prefix(Reply::Absent),
+    match accept(mode, path) {
+        Ok(Seps::Windows) => windows_prefix(path),
+        Ok(_) => Prefixed::from(Reply::Absent),
+        Err(r) => Prefixed::from(r),
     }
 }

@@ -4,28 +4,23 @@ ghost use Rattle.answers.specs.Reply.{refused_verdict};
 ghost use Rattle.answers.specs.Outcome.{told};
 ghost use Rattle.paths.specs.Tests.{root_call, absolute_test};
 
-use answers::{Reply, Verdict};
+use crate::guards::accept;
+use answers::Verdict;
 
 pub fn has_root(mode: usize, path: &[u8]) -> Verdict
     ensures { result ≡ told refused_verdict (root_call mode path.now) }
 {
-    if mode > 1 {
-        return answers::refuse_verdict(Reply::Mode);
+    match accept(mode, path) {
+        Ok(k) => answers::judge(components::has_root(k, path)),
+        Err(r) => Verdict::from(r),
     }
-    if path.len() > octets::LIMIT {
-        return answers::refuse_verdict(Reply::Length);
-    }
-    answers::judge(components::has_root(octets::seps_of(mode), path))
 }
 
 pub fn is_absolute(mode: usize, path: &[u8]) -> Verdict
     ensures { result ≡ told refused_verdict (absolute_test mode path.now) }
 {
-    if mode > 1 {
-        return answers::refuse_verdict(Reply::Mode);
+    match accept(mode, path) {
+        Ok(k) => answers::judge(components::is_absolute(k, path)),
+        Err(r) => Verdict::from(r),
     }
-    if path.len() > octets::LIMIT {
-        return answers::refuse_verdict(Reply::Length);
-    }
-    answers::judge(components::is_absolute(octets::seps_of(mode), path))
 }

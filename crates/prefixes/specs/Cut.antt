@@ -2,7 +2,7 @@
 use Prim.Native.Nat.{ℕ, zero, suc, ◌+◌, ◌-◌, ◌<◌, ◌≤◌}
 use Rattle.std.proofs.Math.Nat.{sub-zero, zero-sub, suc-sub-suc}
 use Rattle.std.proofs.Common.{arith, sym, ◌∙◌, take_all, get_or-drop}
-use Rattle.std.specs.Prelude.{◌≡◌, Bool, false, get_or, take, drop, eqb}
+use Rattle.std.specs.Prelude.{◌≡◌, Bool, false, get_or, take, drop, eqb, None}
 use Rattle.std.proofs.Math.Path.{refl}
 use mathlib.Core.List.{List, [], ◌∷◌}
 use Rattle.std.proofs.Math.Bool.{true}
@@ -17,7 +17,6 @@ use Rattle.octets.specs.Laws.{split}
 use Rattle.octets.specs.declared.Seps.TheVariants.{Windows, Verbatim as OnlyBack}
 use Rattle.prefixes.specs.declared.Names.{Names}
 use Rattle.prefixes.specs.declared.Prefix.TheVariants.{VerbatimUnc}
-use Rattle.prefixes.specs.declared.Parsed.TheVariants.{Nothing}
 use Rattle.prefixes.specs.Prefix.{turned, begins, drive, drive_exact, past, name_of, names_of, verbatim_of, unc_of, is_verbatim, device_of, prefix_of, len_of, end_of_prefix}
 use Rattle.prefixes.specs.Laws.{begins_few, drive_short, drive_two, exact_not, exact_end, exact_sep, exact_three}
 
@@ -196,7 +195,7 @@ module _ (s : List ℕ) (e : ℕ) where
       (λ y. verb_same (ltb-false e 4 y) ∙ h)
 
 module _ (t : List ℕ) where
-  unc_none : end_of_prefix (unc_of t) < 2 → unc_of t ≡ Nothing
+  unc_none : end_of_prefix (unc_of t) < 2 → unc_of t ≡ None
   unfolding unc_of
   unc_none h =
       split (eqb (names_of (is_sep Windows) 2 t).server.len 0)
@@ -217,7 +216,7 @@ module _ (t : List ℕ) where
       (λ z. let a = rw (y, z) at h in rw (names_take (is_sep Windows) 2 t m (omega (arith, a)) (λ g. omega (arith, a)))))
 
 module _ (s : List ℕ) (e : ℕ) where
-  device_none : end_of_prefix (device_of s) < 2 → device_of s ≡ Nothing
+  device_none : end_of_prefix (device_of s) < 2 → device_of s ≡ None
   unfolding device_of
   device_none h = split (begins (46 ∷ 92 ∷ []) (drop 2 s)) (λ u. let a = rw u at h in absurd (omega (arith, a))) (λ u. rw u (unc_none (drop 2 s) (rw u at h)))
 

@@ -1,5 +1,5 @@
 -- Laws of the prefixes: one a way through each function.
-use Rattle.std.specs.Prelude.{ℕ, ◌+◌, ◌-◌, ◌*◌, ◌^◌, ◌<◌, ◌≤◌, ◌≡◌, refl, List, [], ◌∷◌, Bool, false, cond, length, get_or, take, drop, eqb, ltb}
+use Rattle.std.specs.Prelude.{ℕ, ◌+◌, ◌-◌, ◌*◌, ◌^◌, ◌<◌, ◌≤◌, ◌≡◌, refl, List, [], ◌∷◌, Bool, false, not, nat_eq, cond, length, get_or, take, drop, eqb, ltb, Option, Some, None}
 use Rattle.std.specs.Int.{w64}
 use Rattle.std.proofs.Common.{Fits, add-one, sym, ◌∙◌, drop-cons, take_all}
 use native.Mathlib.Omega.{arith}
@@ -17,8 +17,6 @@ use Rattle.prefixes.specs.declared.Names.{Names}
 use Rattle.prefixes.specs.declared.Figures.{Figures}
 use Rattle.prefixes.specs.declared.Prefix.{Prefix}
 use Rattle.prefixes.specs.declared.Prefix.TheVariants.{Verbatim, VerbatimUnc, VerbatimDisk, DeviceNs, Unc, Disk}
-use Rattle.prefixes.specs.declared.Parsed.{Parsed}
-use Rattle.prefixes.specs.declared.Parsed.TheVariants.{Nothing, Is}
 use Rattle.prefixes.specs.Prefix.{turned, begins, slashed, capital, drive, drive_exact, past, name_of, names_of, is_verbatim, verbatim_of, unc_of, device_of, prefix_of, share_len, len_of, end_of_prefix, prefix_in, drive_figures, name_figures, names_figures, figures_of, parsed_figures}
 use Rattle.prefixes.specs.Leaves.{Past, NamesIn}
 
@@ -158,11 +156,8 @@ module _ (s : List ℕ) where
         verb_slash_1 y = sym (verb_bytes s h ∙ rw (u, v, y))
 
         module _ (n : get_or s 0 0 ≡ 47 → ⊥) where
-          pub verb_slash_2 : get_or s 1 0 ≡ 47 → false ≡ is_verbatim s
-          verb_slash_2 y = sym (verb_bytes s h ∙ rw (u, v, ne_eqb (get_or s 0 0) 47 n, y))
-
-          pub verb_yes : (get_or s 1 0 ≡ 47 → ⊥) → true ≡ is_verbatim s
-          verb_yes m = sym (verb_bytes s h ∙ rw (u, v, ne_eqb (get_or s 0 0) 47 n, ne_eqb (get_or s 1 0) 47 m))
+          pub verb_on : (b : Bool) → b ≡ not (nat_eq (get_or s 1 0) 47) → b ≡ is_verbatim s
+          verb_on b y = sym (verb_bytes s h ∙ rw (u, v, ne_eqb (get_or s 0 0) 47 n) (split (eqb (get_or s 1 0) 47) (λ e. rw e (sym (y ∙ rw e))) (λ e. rw e (sym (y ∙ rw e)))))
 
 -- `is_drive`, `is_drive_exact`
 pub drive_short : (t : List ℕ) → length t < 2 → false ≡ drive t
@@ -228,11 +223,11 @@ drive_first (x ∷ s) h =
     simp (letter_slash x l, letter_backslash x l)
 
 module _ (s : List ℕ) where
-  pub drive_disk : drive s ≡ true → prefix_of s ≡ Is (Disk (capital (get_or s 0 0)))
+  pub drive_disk : drive s ≡ true → prefix_of s ≡ Some (Disk (capital (get_or s 0 0)))
   unfolding prefix_of
   drive_disk h = rw (drive_first s h, h)
 
-  pub bare_none : drive s ≡ false → begins (92 ∷ 92 ∷ []) s ≡ false → prefix_of s ≡ Nothing
+  pub bare_none : drive s ≡ false → begins (92 ∷ 92 ∷ []) s ≡ false → prefix_of s ≡ None
   unfolding prefix_of
   bare_none h g = rw (g, h)
 
@@ -288,16 +283,16 @@ module _ (s : List ℕ) where
   exact_five d g y = omega (arith, exact_long (drop 4 s) (rw (← behind 4 s) (sym g ∙ y)), length-drop 4 s)
 
   module _ (n : Names) (e : n ≡ names_of (is_sep Windows) 2 s) where
-    pub unc_bare : n.server.len ≡ 0 → Nothing ≡ unc_of s
+    pub unc_bare : n.server.len ≡ 0 → None ≡ unc_of s
     unfolding unc_of
     unc_bare z = rw (← e, z)
 
     module _ (a : n.server.len ≡ 0 → ⊥) where
-      pub unc_lone : n.share.len ≡ 0 → Nothing ≡ unc_of s
+      pub unc_lone : n.share.len ≡ 0 → None ≡ unc_of s
       unfolding unc_of
       unc_lone z = rw (← e) (simp (ne_eqb n.server.len 0 a, z))
 
-      pub unc_both : (n.share.len ≡ 0 → ⊥) → Is (Unc n) ≡ unc_of s
+      pub unc_both : (n.share.len ≡ 0 → ⊥) → Some (Unc n) ≡ unc_of s
       unfolding unc_of
       unc_both b = rw (← e) (simp (ne_eqb n.server.len 0 a, ne_eqb n.share.len 0 b))
 
@@ -305,11 +300,11 @@ module _ (s : List ℕ) where
     pub device_four : d ≡ true → 2 ≤ length s → 4 ≤ length s
     device_four y l = drop_fits (46 ∷ 92 ∷ []) s 2 d g y l
 
-    pub is_device : (n : Name) → d ≡ true → n ≡ name_of (is_sep Windows) 4 (part 4 s) → Is (DeviceNs n) ≡ device_of s
+    pub is_device : (n : Name) → d ≡ true → n ≡ name_of (is_sep Windows) 4 (part 4 s) → Some (DeviceNs n) ≡ device_of s
     unfolding device_of
     is_device n y h = rw (h, behind 4 s, ← g, y)
 
-    pub is_unc : (u : Parsed) → d ≡ false → u ≡ unc_of (part 2 s) → u ≡ device_of s
+    pub is_unc : (u : Option Prefix) → d ≡ false → u ≡ unc_of (part 2 s) → u ≡ device_of s
     unfolding device_of
     is_unc u n h = h ∙ rw (behind 2 s, ← g, n)
 
@@ -325,15 +320,15 @@ module _ (s : List ℕ) where
             let w : begins (63 ∷ 92 ∷ []) (drop 2 s) ≡ true = split (begins (63 ∷ 92 ∷ []) (drop 2 s)) (λ z. z) (λ z. absurd (false≢true (rw z at (sym f ∙ x)))) in
             omega (arith, fits (63 ∷ 92 ∷ []) (drop 2 s) w, length-drop 2 s)
 
-        pub prefix_verbatim : (p : Prefix) → v ≡ true → p ≡ verbatim_of s → Is p ≡ prefix_of s
+        pub prefix_verbatim : (p : Prefix) → v ≡ true → p ≡ verbatim_of s → Some p ≡ prefix_of s
         unfolding prefix_of
         prefix_verbatim p x g = rw (g, ← e, y, ← f, x)
 
-        pub prefix_other : (p : Parsed) → v ≡ false → p ≡ device_of s → p ≡ prefix_of s
+        pub prefix_other : (p : Option Prefix) → v ≡ false → p ≡ device_of s → p ≡ prefix_of s
         unfolding prefix_of
         prefix_other p x g = rw (g, ← e, y, ← f, x)
 
-    pub prefix_none : drive s ≡ false → q ≡ false → Nothing ≡ prefix_of s
+    pub prefix_none : drive s ≡ false → q ≡ false → None ≡ prefix_of s
     prefix_none d n = sym (bare_none s d (sym e ∙ n))
 
   -- what the test for a drive has told, for whoever asks for it
@@ -392,6 +387,8 @@ module _ (p : Prefix) where
 
 pub ruleset lengths = (len_verbatim, len_device, len_unc, len_verbatim_unc, fits_verbatim, fits_device, fits_unc_1, fits_unc_2, fits_unc_3, fits_verbatim_unc_1, share_small, fits_verbatim_unc_2)
 
+pub ruleset unc_marks = (unc_short, unc_off_1, unc_off_2, unc_off_3, unc_on)
+
 pub ruleset prefixes = (
   capital_same,
   capital_down,
@@ -403,11 +400,6 @@ pub ruleset prefixes = (
   device_short,
   device_off,
   device_on,
-  unc_short,
-  unc_off_1,
-  unc_off_2,
-  unc_off_3,
-  unc_on,
   drive_short,
   drive_here,
   drive_not,
@@ -422,8 +414,7 @@ pub ruleset prefixes = (
   verb_mark,
   verb_back,
   verb_slash_1,
-  verb_slash_2,
-  verb_yes,
+  verb_on,
   unc_eight,
   is_verbatim_unc,
   is_verbatim_disk,
@@ -449,9 +440,9 @@ pub by_cond : {A : Type 0} (P : A → Type 0) (b : Bool) (x y : A) → (b ≡ tr
 by_cond P true x y f g = f refl
 by_cond P false x y f g = g refl
 
-abbrev In : List ℕ → Parsed → Type 0
-In s Nothing = Unit
-In s (Is p) = len_of p ≤ length s
+abbrev In : List ℕ → Option Prefix → Type 0
+In s None = Unit
+In s (Some p) = len_of p ≤ length s
 
 share_in : (a b n : ℕ) → a ≤ n → b ≤ n - past a n → a + share_len b ≤ n
 unfolding past
@@ -507,26 +498,26 @@ in_path Unix s = tt
 in_path Windows s = prefix_in_lem s
 in_path OnlyBack s = tt
 
-pub len_within : (k : Seps) (s : List ℕ) (p : Parsed) (q : Prefix) → p ≡ prefix_in k s → p ≡ Is q → len_of q ≤ length s
+pub len_within : (k : Seps) (s : List ℕ) (p : Option Prefix) (q : Prefix) → p ≡ prefix_in k s → p ≡ Some q → len_of q ≤ length s
 len_within k s p q e f = rw (← e, f) at (in_path k s)
 
 -- so its length can be counted
-pub len_small : (k : Seps) (s : List ℕ) (p : Parsed) (q : Prefix) → p ≡ prefix_in k s → p ≡ Is q → length s * 1 < 2 ^ 63 → len_of q < 2 ^ 63
+pub len_small : (k : Seps) (s : List ℕ) (p : Option Prefix) (q : Prefix) → p ≡ prefix_in k s → p ≡ Some q → length s * 1 < 2 ^ 63 → len_of q < 2 ^ 63
 len_small k s p q e f w = omega (arith, len_within k s p q e f)
 
 -- `end_of`
-pub end_within : (k : Seps) (s : List ℕ) (p : Parsed) → p ≡ prefix_in k s → end_of_prefix p ≤ length s
+pub end_within : (k : Seps) (s : List ℕ) (p : Option Prefix) → p ≡ prefix_in k s → end_of_prefix p ≤ length s
 end_within k s p e = rw e (go (prefix_in k s) (in_path k s))
   where
-    go : (p : Parsed) → In s p → end_of_prefix p ≤ length s
-    go Nothing i = omega arith
-    go (Is p) i = i
+    go : (p : Option Prefix) → In s p → end_of_prefix p ≤ length s
+    go None i = omega arith
+    go (Some p) i = i
 
-module _ (s : List ℕ) (r : Parsed) where
-  pub end_none : r ≡ Nothing → 0 ≡ end_of_prefix r
+module _ (s : List ℕ) (r : Option Prefix) where
+  pub end_none : r ≡ None → 0 ≡ end_of_prefix r
   end_none h = rw h
 
-  module _ (p : Prefix) (h : r ≡ Is p) where
+  module _ (p : Prefix) (h : r ≡ Some p) where
     pub end_small : end_of_prefix r ≤ length s → length s * 1 < 2 ^ 63 → len_of p < 2 ^ 63
     end_small w l = let t : len_of p ≤ length s = rw h at w in omega arith
 
@@ -536,7 +527,7 @@ module _ (s : List ℕ) (r : Parsed) where
 pub ruleset prefix_ends = (end_none, end_small, end_is)
 
 -- `prefix_in`
-pub windows_prefix : (k : Seps) (s : List ℕ) (r : Parsed) → k ≡ Windows → r ≡ prefix_of s → r ≡ prefix_in k s
+pub windows_prefix : (k : Seps) (s : List ℕ) (r : Option Prefix) → k ≡ Windows → r ≡ prefix_of s → r ≡ prefix_in k s
 windows_prefix k s r e f = f ∙ rw e
 
 -- `figures_of`
@@ -559,10 +550,10 @@ module _ (p : Prefix) (r : Figures) where
   pub of_disk : (d : ℕ) → p ≡ Disk d → r ≡ drive_figures 6 d → r ≡ figures_of p
   of_disk d e f = f ∙ rw e
 
-pub of_nothing : (p : Parsed) (r : Figures) → p ≡ Nothing → r ≡ drive_figures 0 0 → r ≡ parsed_figures p
+pub of_nothing : (p : Option Prefix) (r : Figures) → p ≡ None → r ≡ drive_figures 0 0 → r ≡ parsed_figures p
 of_nothing p r e f = f ∙ rw e
 
-pub of_prefix : (p : Parsed) (q : Prefix) (r : Figures) → p ≡ Is q → r ≡ figures_of q → r ≡ parsed_figures p
+pub of_prefix : (p : Option Prefix) (q : Prefix) (r : Figures) → p ≡ Some q → r ≡ figures_of q → r ≡ parsed_figures p
 of_prefix p q r e f = f ∙ rw e
 
 pub ruleset figures = (windows_prefix, of_verbatim, of_verbatim_unc, of_verbatim_disk, of_device, of_unc, of_disk, of_nothing, of_prefix)
@@ -590,7 +581,7 @@ names_inside sep c i s h =
 drive_inside : (c d : ℕ) (s : List ℕ) → NamesIn s (drive_figures c d)
 drive_inside c d s = record { first = omega arith; second = omega arith }
 
-abbrev Inside : List ℕ → Parsed → Type 0
+abbrev Inside : List ℕ → Option Prefix → Type 0
 Inside s p = NamesIn s (parsed_figures p)
 
 verbatim_inside : (s : List ℕ) → 4 ≤ length s → NamesIn s (figures_of (verbatim_of s))

@@ -1,5 +1,5 @@
 -- Windows prefixes. Document 01, "Windows prefixes".
-use Rattle.std.specs.Prelude.{ℕ, ◌+◌, ◌-◌, List, [], ◌∷◌, Bool, true, false, not, cond, length, get_or, take, drop, eqb, ltb}
+use Rattle.std.specs.Prelude.{ℕ, ◌+◌, ◌-◌, List, [], ◌∷◌, Bool, true, false, not, cond, length, get_or, take, drop, eqb, ltb, Option, Some, None}
 use Rattle.octets.specs.Class.{is_letter, is_sep}
 use Rattle.octets.specs.Segment.{lead}
 use Rattle.octets.specs.declared.Seps.{Seps}
@@ -9,8 +9,6 @@ use Rattle.prefixes.specs.declared.Names.{Names}
 use Rattle.prefixes.specs.declared.Figures.{Figures}
 use Rattle.prefixes.specs.declared.Prefix.{Prefix}
 use Rattle.prefixes.specs.declared.Prefix.TheVariants.{Verbatim, VerbatimUnc, VerbatimDisk, DeviceNs, Unc, Disk}
-use Rattle.prefixes.specs.declared.Parsed.{Parsed}
-use Rattle.prefixes.specs.declared.Parsed.TheVariants.{Nothing, Is}
 
 -- "Wherever `\\`, `?\` or `.\` is looked for, `/` counts as `\`." And so in `UNC\`: "The Rust compares a copy of the first eight
 -- bytes in which `/` was already turned to `\`"
@@ -69,10 +67,10 @@ verbatim_of s =
     (Verbatim (name_of (is_sep OnlyBack) 4 (drop 4 s))))
 
 -- "UNC(server, share) if both are nonempty, otherwise no prefix at all"
-abbrev pub both_of : Names → Parsed
-both_of n = cond (eqb n.server.len 0) Nothing (cond (eqb n.share.len 0) Nothing (Is (Unc n)))
+abbrev pub both_of : Names → Option Prefix
+both_of n = cond (eqb n.server.len 0) None (cond (eqb n.share.len 0) None (Some (Unc n)))
 
-unfoldable pub unc_of : List ℕ → Parsed
+unfoldable pub unc_of : List ℕ → Option Prefix
 unc_of t = both_of (names_of (is_sep Windows) 2 t)
 
 -- behind `\\`: "then `?\`, and none of the first four bytes is really `/`"
@@ -80,21 +78,21 @@ unfoldable pub is_verbatim : List ℕ → Bool
 is_verbatim s = cond (begins (63 ∷ 92 ∷ []) (drop 2 s)) (not (slashed (take 4 s))) false
 
 -- "Starts `\\` then `.\`: DeviceNS(name up to either separator). Else starts `\\`: UNC .."
-unfoldable pub device_of : List ℕ → Parsed
-device_of s = cond (begins (46 ∷ 92 ∷ []) (drop 2 s)) (Is (DeviceNs (name_of (is_sep Windows) 4 (drop 4 s)))) (unc_of (drop 2 s))
+unfoldable pub device_of : List ℕ → Option Prefix
+device_of s = cond (begins (46 ∷ 92 ∷ []) (drop 2 s)) (Some (DeviceNs (name_of (is_sep Windows) 4 (drop 4 s)))) (unc_of (drop 2 s))
 
 -- "Starts `\\`, then `?\`, and none of the first four bytes is really `/`: verbatim .. No `\\` at the start: letter and `:` give Disk."
-unfoldable pub prefix_of : List ℕ → Parsed
+unfoldable pub prefix_of : List ℕ → Option Prefix
 prefix_of s =
     cond (begins (92 ∷ 92 ∷ []) s)
-    (cond (is_verbatim s) (Is (verbatim_of s)) (device_of s))
-    (cond (drive s) (Is (Disk (capital (get_or s 0 0)))) Nothing)
+    (cond (is_verbatim s) (Some (verbatim_of s)) (device_of s))
+    (cond (drive s) (Some (Disk (capital (get_or s 0 0)))) None)
 
 -- "Unix mode has none."
-abbrev pub prefix_in : Seps → List ℕ → Parsed
-prefix_in Unix s = Nothing
+abbrev pub prefix_in : Seps → List ℕ → Option Prefix
+prefix_in Unix s = None
 prefix_in Windows s = prefix_of s
-prefix_in OnlyBack s = Nothing
+prefix_in OnlyBack s = None
 
 -- "VerbatimUNC 8 + server, and 1 + share if the share is nonempty"
 abbrev pub share_len : ℕ → ℕ
@@ -110,14 +108,14 @@ len_of (Unc n) = 2 + n.server.len + 1 + n.share.len
 len_of (Disk d) = 2
 
 -- where the prefix ends, and 0 for none
-abbrev pub end_of_prefix : Parsed → ℕ
-end_of_prefix Nothing = 0
-end_of_prefix (Is p) = len_of p
+abbrev pub end_of_prefix : Option Prefix → ℕ
+end_of_prefix None = 0
+end_of_prefix (Some p) = len_of p
 
 -- there is one
-abbrev pub has_prefix : Parsed → Bool
-has_prefix Nothing = false
-has_prefix (Is p) = true
+abbrev pub has_prefix : Option Prefix → Bool
+has_prefix None = false
+has_prefix (Some p) = true
 
 -- it is a Disk
 abbrev pub is_disk : Prefix → Bool
@@ -129,9 +127,9 @@ is_disk (Unc n) = false
 is_disk (Disk d) = true
 
 -- there is one, and it is a Disk
-abbrev pub on_disk : Parsed → Bool
-on_disk Nothing = false
-on_disk (Is p) = is_disk p
+abbrev pub on_disk : Option Prefix → Bool
+on_disk None = false
+on_disk (Some p) = is_disk p
 
 -- the numbers of a prefix: kinds from 1 in the order of document 01, the letter, the names
 abbrev pub drive_figures : ℕ → ℕ → Figures
@@ -151,6 +149,6 @@ figures_of (DeviceNs n) = name_figures 4 n
 figures_of (Unc n) = names_figures 5 n
 figures_of (Disk d) = drive_figures 6 d
 
-abbrev pub parsed_figures : Parsed → Figures
-parsed_figures Nothing = drive_figures 0 0
-parsed_figures (Is p) = figures_of p
+abbrev pub parsed_figures : Option Prefix → Figures
+parsed_figures None = drive_figures 0 0
+parsed_figures (Some p) = figures_of p

@@ -1,9 +1,9 @@
 // Windows prefixes: the six kinds, how long each is, and the numbers that stand for each.
-#![tactic(auto)]
+#![tactic(auto, using(crate::specs::Laws::prefixes))]
 
 ghost use Rattle.std.specs.Prelude.{◌≡◌, ℕ, ◌+◌, ◌-◌, ◌^◌, ◌<◌, ◌≤◌, [], ◌∷◌, false, length, drop};
 ghost use Rattle.octets.specs.Class.{is_sep};
-ghost use Rattle.prefixes.specs.Prefix.{begins, capital, drive, drive_exact, name_of, names_of, is_verbatim, verbatim_of, unc_of, device_of, prefix_of, prefix_in, share_len, len_of, end_of_prefix, has_prefix, is_disk, on_disk, drive_figures, name_figures, names_figures, figures_of, parsed_figures};
+ghost use Rattle.prefixes.specs.Prefix.{begins, capital, drive, drive_exact, name_of, names_of, is_verbatim, verbatim_of, unc_of, device_of, prefix_of, prefix_in, share_len, len_of, end_of_prefix, has_prefix, on_disk, drive_figures, name_figures, names_figures, figures_of, parsed_figures};
 ghost use Rattle.prefixes.specs.Leaves.{Past};
 
 use octets::Seps;
@@ -32,27 +32,14 @@ pub enum Prefix {
     Disk(u8),
 }
 
-#[derive(Clone, Copy)]
-pub enum Parsed {
-    Nothing,
-    Is(Prefix),
-}
-
 // Whether s starts with `\\`, read so that `/` counts as `\`.
 fn two_seps(s: &[u8]) -> bool
     ensures { result ≡ begins (92 ∷ 92 ∷ []) s.now }
 {
-    if s.len() < 2 {
-        return false;
-    }
-    if octets::is_sep(Seps::Windows, s[0]) {
-        return octets::is_sep(Seps::Windows, s[1]);
-    }
-    false
+    s.len() >= 2 && octets::is_sep(Seps::Windows, s[0]) && octets::is_sep(Seps::Windows, s[1])
 }
 
-// A letter as a capital.
-#[tactic(auto, using(crate::specs::Laws::prefixes))]
+// A letter as a capital. Not `to_ascii_uppercase`: that leaves `{` as it is, and `capital` says otherwise.
 pub fn to_capital(b: u8) -> u8
     ensures { result ≡ capital b }
 {
@@ -66,27 +53,14 @@ pub fn to_capital(b: u8) -> u8
 pub fn is_drive(t: &[u8]) -> bool
     ensures { result ≡ drive t.now }
 {
-    if t.len() < 2 {
-        return false;
-    }
-    if octets::is_letter(t[0]) {
-        return t[1] == 58;
-    }
-    false
+    t.len() >= 2 && octets::is_letter(t[0]) && t[1] == b':'
 }
 
 // The same, and then the end or either separator.
-#[tactic(auto, using(crate::specs::Laws::prefixes))]
 fn is_drive_exact(t: &[u8]) -> bool
     ensures { result ≡ drive_exact t.now }
 {
-    if is_drive(t) {
-        if t.len() == 2 {
-            return true;
-        }
-        return octets::is_sep(Seps::Windows, t[2]);
-    }
-    false
+    is_drive(t) && (t.len() == 2 || octets::is_sep(Seps::Windows, t[2]))
 }
 
 // The name at the front of t, which starts at place i.
@@ -129,41 +103,21 @@ fn names_of(k: Seps, t: &[u8], i: usize) -> Names
 fn is_verbatim(s: &[u8]) -> bool
     ensures { result ≡ is_verbatim s.now }
 {
-    if s.len() < 4 {
-        return false;
+    match s {
+        [a, b, b'?', b'\\', ..] => *a != b'/' && *b != b'/',
+        _ => false,
     }
-    if s[2] != 63 {
-        return false;
-    }
-    if s[3] != 92 {
-        return false;
-    }
-    if s[0] == 47 {
-        return false;
-    }
-    if s[1] == 47 {
-        return false;
-    }
-    true
 }
 
 // Whether `UNC\` or `UNC/` stands behind `\\?\`.
+#[tactic(auto, using(crate::specs::Laws::unc_marks))]
 fn is_unc(s: &[u8]) -> bool
     ensures { result ≡ begins (85 ∷ 78 ∷ 67 ∷ 92 ∷ []) (drop 4 s.now) }
 {
-    if s.len() < 8 {
-        return false;
+    match s {
+        [_, _, _, _, b'U', b'N', b'C', b, ..] => octets::is_sep(Seps::Windows, *b),
+        _ => false,
     }
-    if s[4] != 85 {
-        return false;
-    }
-    if s[5] != 78 {
-        return false;
-    }
-    if s[6] != 67 {
-        return false;
-    }
-    octets::is_sep(Seps::Windows, s[7])
 }
 
 // The prefix of a path that starts with `\\?\`.
@@ -184,70 +138,63 @@ fn verbatim(s: &[u8]) -> Prefix
 }
 
 // Server and share in t, the part behind `\\`, if neither is empty.
-fn unc(t: &[u8]) -> Parsed
+fn unc(t: &[u8]) -> Option<Prefix>
     ensures { result ≡ unc_of t.now }
 {
     let n = names_of(Seps::Windows, t, 2);
     let a = n.server;
     let b = n.share;
-    if a.len == 0 {
-        return Parsed::Nothing;
+    if a.len == 0 || b.len == 0 {
+        return None;
     }
-    if b.len == 0 {
-        return Parsed::Nothing;
-    }
-    Parsed::Is(Prefix::Unc(n))
+    Some(Prefix::Unc(n))
 }
 
 // Whether `\\` goes on to `.\`.
 fn is_device(s: &[u8]) -> bool
     ensures { result ≡ begins (46 ∷ 92 ∷ []) (drop 2 s.now) }
 {
-    if s.len() < 4 {
-        return false;
+    match s {
+        [_, _, b'.', b, ..] => octets::is_sep(Seps::Windows, *b),
+        _ => false,
     }
-    if s[2] != 46 {
-        return false;
-    }
-    octets::is_sep(Seps::Windows, s[3])
 }
 
 // The prefix of a path that starts with `\\` and is not verbatim.
-fn device_or_unc(s: &[u8]) -> Parsed
+fn device_or_unc(s: &[u8]) -> Option<Prefix>
     requires { 2 ≤ length s.now }
     ensures { result ≡ device_of s.now }
 {
     if is_device(s) {
         let n = name_of(Seps::Windows, &s[4..], 4);
-        return Parsed::Is(Prefix::DeviceNs(n));
+        return Some(Prefix::DeviceNs(n));
     }
     unc(&s[2..])
 }
 
 // The prefix of a Windows path, but for a drive: that, the commonest, is told by its first two bytes before this is asked.
-pub fn parse_prefix(s: &[u8]) -> Parsed
+pub fn parse_prefix(s: &[u8]) -> Option<Prefix>
     requires { drive s.now ≡ false }
     ensures { result ≡ prefix_of s.now }
 {
     if two_seps(s) {
         if is_verbatim(s) {
             let p = verbatim(s);
-            return Parsed::Is(p);
+            return Some(p);
         }
         return device_or_unc(s);
     }
-    Parsed::Nothing
+    None
 }
 
 // The same of a path read with k, the set of separators of a mode: Unix mode has none.
-pub fn prefix_in(k: Seps, s: &[u8]) -> Parsed
+pub fn prefix_in(k: Seps, s: &[u8]) -> Option<Prefix>
     requires { drive s.now ≡ false }
     ensures { result ≡ prefix_in k s.now }
 {
     match k {
-        Seps::Unix => Parsed::Nothing,
+        Seps::Unix | Seps::Verbatim => None,
         Seps::Windows => parse_prefix(s),
-        Seps::Verbatim => Parsed::Nothing,
     }
 }
 
@@ -285,47 +232,28 @@ pub fn prefix_len(p: Prefix) -> usize
 }
 
 // Where a prefix of the path s ends; 0 if there is none.
-pub fn end_of(p: Parsed, s: &[u8]) -> usize
+pub fn end_of(p: Option<Prefix>, s: &[u8]) -> usize
     requires { end_of_prefix p ≤ length s.now }
     ensures { result ≡ end_of_prefix p }
 {
     match p {
-        Parsed::Nothing => 0,
-        Parsed::Is(q) => prefix_len(q),
+        None => 0,
+        Some(q) => prefix_len(q),
     }
 }
 
 // Whether a path has a prefix.
-pub fn has_prefix(p: Parsed) -> bool
+pub fn has_prefix(p: Option<Prefix>) -> bool
     ensures { result ≡ has_prefix p }
 {
-    match p {
-        Parsed::Nothing => false,
-        Parsed::Is(_) => true,
-    }
-}
-
-fn is_disk(p: Prefix) -> bool
-    ensures { result ≡ is_disk p }
-{
-    match p {
-        Prefix::Verbatim(_) => false,
-        Prefix::VerbatimUnc(_) => false,
-        Prefix::VerbatimDisk(_) => false,
-        Prefix::DeviceNs(_) => false,
-        Prefix::Unc(_) => false,
-        Prefix::Disk(_) => true,
-    }
+    p.is_some()
 }
 
 // Whether it has one that is a Disk.
-pub fn on_disk(p: Parsed) -> bool
+pub fn on_disk(p: Option<Prefix>) -> bool
     ensures { result ≡ on_disk p }
 {
-    match p {
-        Parsed::Nothing => false,
-        Parsed::Is(q) => is_disk(q),
-    }
+    matches!(p, Some(Prefix::Disk(_)))
 }
 
 // A prefix in numbers: its kind from 1, the capital letter, and the places of its names; zeros for what it has not.
@@ -394,11 +322,11 @@ fn prefix_figures(p: Prefix) -> Figures
 }
 
 // The same of a prefix that may be missing: then all are 0.
-pub fn figures_of(p: Parsed) -> Figures
+pub fn figures_of(p: Option<Prefix>) -> Figures
     ensures { result ≡ parsed_figures p }
 {
     match p {
-        Parsed::Nothing => drive_figures(0, 0),
-        Parsed::Is(q) => prefix_figures(q),
+        None => drive_figures(0, 0),
+        Some(q) => prefix_figures(q),
     }
 }

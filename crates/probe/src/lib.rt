@@ -1,5 +1,6 @@
 // Every public call as a C export, for tests and benchmarks alone: no user links this. A call returns its reply's number and puts
 // its other numbers into `answer`, in the order of docs/PROTOCOL.md; a call that writes takes the buffer besides.
+// Each is a function of its own, with its arguments one by one: the C interface of the tests and the bench has these names.
 #![tactic(auto)]
 
 use paths::Cursor;
@@ -17,8 +18,7 @@ pub extern "C" fn probe_next(
     path: &[u8],
     answer: &mut [usize; 12],
 ) -> usize {
-    let c = Cursor { mode, front, back };
-    numbers::put_step(c.next(path), answer)
+    numbers::put_step(Cursor { mode, front, back }.next(path), answer)
 }
 
 #[unsafe(no_mangle)]
@@ -29,8 +29,7 @@ pub extern "C" fn probe_next_back(
     path: &[u8],
     answer: &mut [usize; 12],
 ) -> usize {
-    let c = Cursor { mode, front, back };
-    numbers::put_step(c.next_back(path), answer)
+    numbers::put_step(Cursor { mode, front, back }.next_back(path), answer)
 }
 
 #[unsafe(no_mangle)]
@@ -41,8 +40,7 @@ pub extern "C" fn probe_as_path(
     path: &[u8],
     answer: &mut [usize; 2],
 ) -> usize {
-    let c = Cursor { mode, front, back };
-    numbers::put_view(c.as_path(path), answer)
+    numbers::put_view(Cursor { mode, front, back }.as_path(path), answer)
 }
 
 #[unsafe(no_mangle)]

@@ -1,6 +1,5 @@
-pub mod Words
 pub mod Digits
+pub mod Words
 pub mod Verbs
-pub mod Requests
 pub mod Laws
 pub mod Examples

@@ -1,12 +1,9 @@
--- When two words are the same.
-use Rattle.std.specs.Prelude.{ℕ, Bool, true, false, cond, List, [], ◌∷◌, eqb, drop}
+-- What stands beside a word in a table.
+use Rattle.std.specs.Prelude.{ℕ, cond, Option, Some, None, List, [], ◌∷◌}
+use Rattle.std.specs.Str.{bytes_eq}
+use Rattle.std.specs.Borrow.{Bor}
 
-unfoldable pub equal : List ℕ → List ℕ → Bool
-equal [] [] = true
-equal [] (y ∷ b) = false
-equal (x ∷ a) [] = false
-equal (x ∷ a) (y ∷ b) = cond (eqb x y) (equal a b) false
-
--- the same from place i on
-unfoldable pub equal_from : List ℕ → List ℕ → ℕ → Bool
-equal_from a b i = equal (drop i a) (drop i b)
+-- the first row's with this word
+abbrev pub beside : {A : Type 0} → List (Bor (List ℕ) × A) → List ℕ → Option A
+beside [] w = None
+beside (row ∷ rows) w = cond (bytes_eq w row.0.now) (Some row.1) (beside rows w)

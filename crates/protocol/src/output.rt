@@ -1,114 +1,138 @@
-// An answer's text, put into a buffer from a place on; each function gives the place behind what it put. The buffer
-// holds two of the longest answers, so that whoever empties it has only to look before an answer, and no piece is
-// ever cut. Proved: they stay within the buffer and put no more than they say. Which bytes they put is tested.
-ghost use Rattle.std.specs.Prelude.{◌≡◌, ◌+◌, ◌*◌, ◌≤◌, ◌<◌, length};
+// An answer's text, put into a buffer behind the answers that it holds. The buffer holds two of the longest answers, so
+// that whoever empties it has only to look before an answer, and no piece is ever cut. Proved: that it stays within
+// the buffer and puts no more than it says. Which bytes it puts is tested.
+ghost use Rattle.std.specs.Prelude.{◌≡◌, ◌+◌, ◌*◌, ◌≤◌, ◌<◌, ◌↔◌, IsTrue, length};
 
-// The buffer for answers.
-pub const SPACE: usize = 262144;
+use crate::{ANSWER, SPACE};
+use std::marker::Model;
+
+// Up to this place of the buffer there is room for one more answer.
+const FULL: usize = SPACE - ANSWER;
+
+// The answers that were not written out yet.
+#[derive(Drop)]
+pub struct Answers {
+    text: [u8; SPACE],
+    held: usize,
+}
+
+// Clauses see how many bytes are held.
+impl Model for Answers {
+    ghost use Rattle.std.specs.Prelude.{ℕ, ◌≤◌};
+    ghost use Rattle.protocol.specs.declared.TheConstants.{SPACE};
+
+    ghost Value = { ℕ };
+
+    ghost view = { λ a. a.held };
+
+    ghost invariant = { λ a. a.held ≤ SPACE };
+}
 
 // A digit, 0 to 15, as it is written.
 fn glyph(d: u8) -> u8
     requires { d < 16 }
 {
-    if d < 10 { 48 + d } else { 87 + d }
+    if d < 10 { b'0' + d } else { b'a' - 10 + d }
 }
 
-pub fn put(out: &mut [u8; SPACE], n: usize, b: u8) -> usize
-    requires { n < 262144 }
-    ensures { result ≡ n + 1 }
-{
-    out[n] = b;
-    n + 1
-}
-
-// How many decimal digits v has. Twenty are enough for any.
-fn places(v: usize) -> usize
-    ensures { result ≤ 20 }
-{
-    let mut k = 1;
-    let mut rest = v;
-    while k < 20 {
-        if rest < 10 {
-            return k;
-        }
-        rest /= 10;
-        k += 1;
-    }
-    k
-}
-
-// The last k decimal digits of v, from place n on.
-fn spell(out: &mut [u8; SPACE], n: usize, k: usize, v: usize)
-    requires { n + k ≤ 262144 }
-{
-    let mut i = k;
-    let mut rest = v;
-    while i > 0 {
-        i -= 1;
-        out[n + i] = glyph((rest % 10) as u8);
-        rest /= 10;
-    }
-}
-
-pub fn put_number(out: &mut [u8; SPACE], n: usize, v: usize) -> usize
-    requires { n + 20 ≤ 262144 }
-    ensures { result ≤ n + 20 }
-{
-    let k = places(v);
-    spell(out, n, k, v);
-    n + k
-}
-
-// The numbers of a row with a space between, and `last` behind them: the line's end, or a space where more follows.
-pub fn put_row(out: &mut [u8; SPACE], n: usize, row: &[usize], last: u8) -> usize
-    requires { n + 21 * length row.now ≤ 262144 }
-    ensures { result ≤ n + 21 * length row.now }
-{
-    let mut at = n;
-    let mut i = 0;
-    while i < row.len() {
-        at = put_number(out, at, row[i]);
-        i += 1;
-        if i < row.len() {
-            at = put(out, at, b' ');
-        } else {
-            at = put(out, at, last);
+impl Answers {
+    pub fn new() -> Answers
+        ensures { result ≡ 0 }
+    {
+        Answers {
+            text: [0; SPACE],
+            held: 0,
         }
     }
-    at
-}
 
-// A byte as two hex digits.
-fn put_byte(out: &mut [u8; SPACE], n: usize, b: u8) -> usize
-    requires { n + 2 ≤ 262144 }
-    ensures { result ≡ n + 2 }
-{
-    let at = put(out, n, glyph(b / 16));
-    put(out, at, glyph(b % 16))
-}
-
-// The bytes of s in hex, `-` for none.
-pub fn put_hex(out: &mut [u8; SPACE], n: usize, s: &[u8]) -> usize
-    requires { n + 2 * length s.now < 262144 }
-    ensures { result ≤ n + 2 * length s.now + 1 }
-{
-    if s.len() == 0 {
-        return put(out, n, b'-');
+    pub fn bytes(&self) -> &[u8]
+        ensures { length result.now ≡ self.now }
+    {
+        &self.text[..self.held]
     }
-    let mut at = n;
-    let mut i = 0;
-    while i < s.len() {
-        at = put_byte(out, at, s[i]);
-        i += 1;
-    }
-    at
-}
 
-// A line that is no request.
-pub fn put_bad(out: &mut [u8; SPACE], n: usize) -> usize
-    requires { n + 2 ≤ 262144 }
-    ensures { result ≡ n + 2 }
-{
-    let at = put(out, n, b'?');
-    put(out, at, 10)
+    pub fn clear(&mut self)
+        ensures { self.new ≡ 0 }
+    {
+        self.held = 0;
+    }
+
+    // Whether one more answer might not fit.
+    pub fn is_full(&self) -> bool
+        ensures { IsTrue result ↔ (SPACE < self.now + ANSWER) }
+    {
+        self.held > FULL
+    }
+
+    pub fn put(&mut self, b: u8)
+        requires { self.old < SPACE }
+        ensures { self.new ≡ self.old + 1 }
+    {
+        self.text[self.held] = b;
+        self.held += 1;
+    }
+
+    pub fn put_all(&mut self, s: &[u8])
+        requires { self.old + length s.now ≤ SPACE }
+        ensures { self.new ≡ self.old + length s.now }
+    {
+        let end = self.held + s.len();
+        self.text[self.held..end].copy_from_slice(s);
+        self.held = end;
+    }
+
+    // In decimal. Twenty digits are enough for any number. The digits come from the last on, and a `for` could not hand on
+    // where it stopped.
+    pub fn put_number(&mut self, v: usize)
+        requires { self.old + 20 ≤ SPACE }
+        ensures { self.new ≤ self.old + 20 }
+    {
+        let mut digits = [0; 20];
+        let mut first = 20;
+        let mut rest = v;
+        while first > 0 {
+            first -= 1;
+            digits[first] = glyph((rest % 10) as u8);
+            rest /= 10;
+            if rest == 0 {
+                break;
+            }
+        }
+        self.put_all(&digits[first..]);
+    }
+
+    // Numbers with a space between.
+    pub fn put_row(&mut self, row: &[usize])
+        requires { self.old + 21 * length row.now ≤ SPACE }
+        ensures { self.new ≤ self.old + 21 * length row.now }
+    {
+        for (i, v) in row.iter().enumerate() {
+            if i > 0 {
+                self.put(b' ');
+            }
+            self.put_number(*v);
+        }
+    }
+
+    // The bytes of s in hex, `-` for none.
+    pub fn put_hex(&mut self, s: &[u8])
+        requires { self.old + 2 * length s.now < SPACE }
+        ensures { self.new ≤ self.old + 2 * length s.now + 1 }
+    {
+        if s.is_empty() {
+            self.put(b'-');
+        }
+        for b in s {
+            self.put(glyph(*b / 16));
+            self.put(glyph(*b % 16));
+        }
+    }
+
+    // A line that is no request.
+    pub fn put_bad(&mut self)
+        requires { self.old + 2 ≤ SPACE }
+        ensures { self.new ≡ self.old + 2 }
+    {
+        self.put_all(b"?\n");
+    }
 }

@@ -1,5 +1,5 @@
 // How one path is set behind another by a set of separators: whether a separator is wanted between the two.
-#![tactic(auto)]
+#![tactic(auto, using(crate::specs::Laws::seams))]
 
 ghost use Rattle.std.specs.Prelude.{◌≡◌};
 ghost use Rattle.seams.specs.Seam.{sep_of, wants};
@@ -12,8 +12,7 @@ pub fn sep_of(k: Seps) -> u8
 {
     match k {
         Seps::Unix => 47,
-        Seps::Windows => 92,
-        Seps::Verbatim => 92,
+        Seps::Windows | Seps::Verbatim => 92,
     }
 }
 
@@ -21,9 +20,5 @@ pub fn sep_of(k: Seps) -> u8
 pub fn wants_sep(k: Seps, s: &[u8]) -> bool
     ensures { result ≡ wants k s.now }
 {
-    let n = s.len();
-    if n == 0 {
-        return false;
-    }
-    !octets::is_sep(k, s[n - 1])
+    s.last().is_some_and(|b| !octets::is_sep(k, *b))
 }

@@ -1,7 +1,9 @@
 -- Laws of the setters: one a way through each function.
-use Rattle.std.specs.Prelude.{ℕ, ◌+◌, ◌-◌, ◌<◌, ◌≤◌, ◌≡◌, List, [], ◌∷◌, ◌++◌, Bool, true, false, cond, length, get_or, take}
+use Rattle.std.specs.Prelude.{ℕ, ◌+◌, ◌-◌, ◌<◌, ◌≤◌, ◌≡◌, List, [], ◌∷◌, ◌++◌, Bool, true, false, cond, not, nat_eq, eqb, length, get_or, take, Option, Some, None}
+use borrow.Author.Tests.{eqb-true}
+use Rattle.octets.specs.Laws.{split}
 use Rattle.std.proofs.Math.Nat.{sub-zero, add-sub_of_le}
-use Rattle.std.proofs.Common.{arith, add-one, ◌∙◌, append-nil, drop_of_length-le, length-take-le, drop-cons, eq-eqb, ne_eqb}
+use Rattle.std.proofs.Common.{arith, add-one, ◌∙◌, append-nil, drop_of_length-le, length-take-le, drop-cons}
 use Rattle.std.proofs.Math.Path.{refl, sym}
 use Rattle.std.proofs.Math.Seq.{take-length}
 use Rattle.octets.specs.Class.{is_sep, limit}
@@ -13,11 +15,7 @@ use Rattle.answers.specs.Reply.{refused_view, seen}
 use Rattle.answers.specs.Outcome.{give, guard}
 use Rattle.answers.specs.Written.{Wrote}
 use Rattle.buffers.specs.Laws.{refused}
-use Rattle.parts.specs.declared.Item.{Item}
-use Rattle.parts.specs.declared.Item.TheVariants.{Missing, Here}
 use Rattle.parts.specs.declared.Part.{Part}
-use Rattle.parts.specs.declared.Piece.{Piece}
-use Rattle.parts.specs.declared.Piece.TheVariants.{Nothing, Found}
 use Rattle.parts.specs.Elements.{is_here}
 use Rattle.parts.specs.Steps.{lift}
 use Rattle.joins.specs.Join.{joined}
@@ -26,11 +24,12 @@ use Rattle.views.specs.Leaves.{NameAt, before_name, BaseAt, StemAt}
 use Rattle.views.specs.Laws.{name_ends}
 use Rattle.setters.specs.Set.{base_of, holds, pointed, extended}
 use Rattle.setters.specs.Leaves.{holds_from}
+use Rattle.parts.specs.declared.Element.{Element}
 
 -- `set_file_name_in`
-base_is : (p : List ℕ) (r a : ℕ) (i : Item) → r ≡ before_name i a (length p) → take r p ≡ cond (is_here i) (take a p) p
-base_is p r a Missing e = rw e (take-length p)
-base_is p r a (Here x) e = rw e
+base_is : (p : List ℕ) (r a : ℕ) (i : Option Element) → r ≡ before_name i a (length p) → take r p ≡ cond (is_here i) (take a p) p
+base_is p r a None e = rw e (take-length p)
+base_is p r a (Some x) e = rw e
 
 module _ (k : Seps) (p q : List ℕ) (r : ℕ) (b : BaseAt k p r) where
   pub base_short : length p ≤ limit → length (take r p) ≤ limit
@@ -66,13 +65,16 @@ module _ (sep : ℕ → Bool) (e : List ℕ) where
 
 -- `put_extension`
 module _ (p e : List ℕ) (a : View) (x y : List ℕ) where
-  pub put_none : length e ≡ 0 → Wrote (give ((p ++ []) ++ [])) a x y → Wrote (give (pointed p e)) a x y
+  pub put_is : (b : Bool) → b ≡ nat_eq (length e) 0 → Wrote (give (p ++ cond (not b) (46 ∷ []) [] ++ e)) a x y → Wrote (give (pointed p e)) a x y
   unfolding pointed
-  put_none z w = rw (eq-eqb (length e) 0 z) (rw (append-nil, append-nil) at w)
+  put_is b z w = rw same at (rw z at w)
+    where
+      none : (e : List ℕ) → length e ≡ 0 → e ≡ []
+      none [] z = refl
+      none (y ∷ e) z = absurd (omega (arith, z))
 
-  pub put_some : (length e ≡ 0 → ⊥) → Wrote (give (p ++ (46 ∷ []) ++ e)) a x y → Wrote (give (pointed p e)) a x y
-  unfolding pointed
-  put_some z w = rw (ne_eqb (length e) 0 z) w
+      same : p ++ cond (not (eqb (length e) 0)) (46 ∷ []) [] ++ e ≡ cond (eqb (length e) 0) p (p ++ (46 ∷ []) ++ e)
+      same = split (eqb (length e) 0) (λ z. rw (z, none e (eqb-true (length e) 0 z)) (rw (append-nil, append-nil))) (λ z. rw z)
 
 -- `set_extension_in`
 module _ (k : Seps) (p e : List ℕ) (b : Bool) (t : b ≡ holds (is_sep k) e) where
@@ -80,14 +82,14 @@ module _ (k : Seps) (p e : List ℕ) (b : Bool) (t : b ≡ holds (is_sep k) e) w
   unfolding extended guard
   name_refused a x y f = rw (← t, y, f) refused
 
-  module _ (m : b ≡ false) (n : Piece) (w : NameAt k p n) where
-    pub stem_absent : (a : View) (x : List ℕ) → n ≡ Nothing → a ≡ refused_view Absent → Wrote (extended k p e) a x x
+  module _ (m : b ≡ false) (n : Option Part) (w : NameAt k p n) where
+    pub stem_absent : (a : View) (x : List ℕ) → n ≡ None → a ≡ refused_view Absent → Wrote (extended k p e) a x x
     unfolding extended guard of_name
     stem_absent a x g f =
-        let i : last_name k p ≡ Missing = sym w.is ∙ rw g in
+        let i : last_name k p ≡ None = sym w.is ∙ rw g in
         rw (← t, m, i, f) refused
 
-    module _ (q : Part) (g : n ≡ Found q) where
+    module _ (q : Part) (g : n ≡ Some q) where
       pub stem_in : q.start + q.len ≤ length p
       stem_in = name_ends k p n w q g
 
@@ -95,7 +97,7 @@ module _ (k : Seps) (p e : List ℕ) (b : Bool) (t : b ≡ holds (is_sep k) e) w
         stem_of : file_stem_of k p ≡ give (seen q.start (r - q.start))
         unfolding of_name
         stem_of =
-            let i : last_name k p ≡ Here (lift q) = sym w.is ∙ rw g in
+            let i : last_name k p ≡ Some (lift q) = sym w.is ∙ rw g in
             rw i s.is
 
         pub stem_inside : r ≤ length p
@@ -108,4 +110,4 @@ module _ (k : Seps) (p e : List ℕ) (b : Bool) (t : b ≡ holds (is_sep k) e) w
         unfolding extended guard
         extension_set a x y o = rw (← t, m, stem_of, add-sub_of_le s.low) (rw sub-zero at o)
 
-pub ruleset setting = (base_short, set_is, set_unix, holds_start, holds_not, holds_here, holds_on, put_none, put_some, name_refused, stem_absent, stem_in, stem_inside, stem_short, extension_set)
+pub ruleset setting = (base_short, set_is, set_unix, holds_start, holds_not, holds_here, holds_on, put_is, name_refused, stem_absent, stem_in, stem_inside, stem_short, extension_set)

@@ -1,5 +1,5 @@
 // A path with another file name, or with another extension.
-#![tactic(auto)]
+#![tactic(auto, using(crate::specs::Laws::setting))]
 
 ghost use Rattle.std.specs.Prelude.{◌≡◌, ℕ, ◌≤◌, length};
 ghost use Rattle.octets.specs.Class.{is_sep, limit};
@@ -10,31 +10,23 @@ ghost use Rattle.setters.specs.Set.{holds, base_of, pointed, extended};
 
 use answers::{Reply, View};
 use octets::Seps;
-use parts::Piece;
 
 pub fn set_file_name_in(k: Seps, p: &[u8], q: &[u8], out: &mut [u8]) -> View
     requires { (length p.now ≤ limit) × (length q.now ≤ limit) }
     ensures { Wrote (give (joined k (base_of k p.now) q.now)) result out.old out.new }
 {
     let e = views::base_len(k, p);
-    let b = &p[0..e];
-    match k {
-        Seps::Unix => joins::join_unix(b, q, out),
-        Seps::Windows => joins::join_any(k, b, q, out),
-        Seps::Verbatim => joins::join_any(k, b, q, out),
-    }
+    joins::join_in(k, &p[0..e], q, out)
 }
 
 // Whether a separator stands in e.
 fn holds_sep(k: Seps, e: &[u8]) -> bool
     ensures { result ≡ holds (is_sep k) e.now }
 {
-    let mut i = 0;
-    while i < e.len() {
-        if octets::is_sep(k, e[i]) {
+    for &b in e {
+        if octets::is_sep(k, b) {
             return true;
         }
-        i += 1;
     }
     false
 }
@@ -44,12 +36,11 @@ pub fn set_extension_in(k: Seps, p: &[u8], e: &[u8], out: &mut [u8]) -> View
     ensures { Wrote (extended k p.now e.now) result out.old out.new }
 {
     if holds_sep(k, e) {
-        return answers::refuse_view(Reply::Name);
+        return View::from(Reply::Name);
     }
-    let n = views::name_part(k, p);
-    match n {
-        Piece::Nothing => answers::refuse_view(Reply::Absent),
-        Piece::Found(q) => {
+    match views::name_part(k, p) {
+        None => View::from(Reply::Absent),
+        Some(q) => {
             let end = views::stem_end(p, q);
             put_extension(&p[0..end], e, out)
         }
@@ -61,8 +52,5 @@ fn put_extension(p: &[u8], e: &[u8], out: &mut [u8]) -> View
     requires { (length p.now ≤ limit) × (length e.now ≤ limit) }
     ensures { Wrote (give (pointed p.now e.now)) result out.old out.new }
 {
-    if e.len() == 0 {
-        return buffers::lay(p, false, 46, b"", out);
-    }
-    buffers::lay(p, true, 46, e, out)
+    buffers::lay(p, !e.is_empty(), 46, e, out)
 }

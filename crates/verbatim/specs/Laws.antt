@@ -1,5 +1,5 @@
 -- Laws of a verbatim join: what stays of a list laid onto another, and one law a way through each function.
-use Rattle.std.specs.Prelude.{ℕ, zero, suc, ◌+◌, ◌-◌, ◌^◌, ◌<◌, ◌≤◌, ◌≡◌, refl, Bool, true, false, take, drop}
+use Rattle.std.specs.Prelude.{ℕ, zero, suc, ◌+◌, ◌-◌, ◌^◌, ◌<◌, ◌≤◌, ◌≡◌, refl, Bool, true, false, take, drop, Option, Some, None}
 use Rattle.std.specs.Int.{w64}
 use Rattle.std.proofs.Common.{Fits, add-one, sub-one, arith, sym, ◌∙◌, length-drop, length-take-le}
 use Rattle.std.proofs.Math.Path.{ap}
@@ -15,8 +15,6 @@ use Rattle.parts.specs.declared.Element.{Element}
 use Rattle.parts.specs.declared.Kind.{Kind}
 use Rattle.parts.specs.declared.Kind.TheVariants.{Dot as OneDot, DotDot, Name}
 use Rattle.parts.specs.declared.Part.{Part}
-use Rattle.parts.specs.declared.Piece.{Piece}
-use Rattle.parts.specs.declared.Piece.TheVariants.{Nothing as NoPart, Found}
 use Rattle.parts.specs.Body.{component_of, dots}
 use Rattle.parts.specs.Steps.{lift, within, LastAt}
 use Rattle.parts.specs.Laws.{few, last_none, last_found, Bodily, Goods, from_good}
@@ -191,16 +189,16 @@ sift_less OnlyBack ParentDir c = omega arith
 sift_less k Normal zero = omega arith
 sift_less k Normal (suc c) = omega arith
 
-module _ (k : Seps) (s : List ℕ) (lo e c : ℕ) (y : Piece) (f : LastAt (is_sep k) (dots k) s lo e y) where
-  pub text_none : y ≡ NoPart → text_at k s lo e c ≡ []
+module _ (k : Seps) (s : List ℕ) (lo e c : ℕ) (y : Option Part) (f : LastAt (is_sep k) (dots k) s lo e y) where
+  pub text_none : y ≡ None → text_at k s lo e c ≡ []
   unfolding text_at spellings_of kept flat
   text_none g = rw (last_none f g)
 
-  owed_none : y ≡ NoPart → owed_at k s lo e c ≡ c
+  owed_none : y ≡ None → owed_at k s lo e c ≡ c
   unfolding owed_at spellings_of owed
   owed_none g = rw (last_none f g)
 
-  module _ (x : Part) (g : y ≡ Found x) where
+  module _ (x : Part) (g : y ≡ Some x) where
     bulk_step : bulk k s lo e ≡ bulk k s lo x.start + 1
     unfolding bulk
     bulk_step = ap length (last_found f g).is ∙ length-append (within (is_sep k) (dots k) s lo x.start) (lift x ∷ [])
@@ -233,7 +231,7 @@ module _ (k : Seps) (s : List ℕ) (lo e c : ℕ) (y : Piece) (f : LastAt (is_se
       left_less = rw h (sift_less k (component_of x.kind) c)
 
 -- what both loops learn of a part
-module _ (k : Seps) (s : List ℕ) (lo left e c : ℕ) (i : Reading k s lo left e c) (y : Piece) (f : LastAt (is_sep k) (dots k) s lo e y) (x : Part) (g : y ≡ Found x) where
+module _ (k : Seps) (s : List ℕ) (lo left e c : ℕ) (i : Reading k s lo left e c) (y : Option Part) (f : LastAt (is_sep k) (dots k) s lo e y) (x : Part) (g : y ≡ Some x) where
   pub read_falls : bulk k s lo x.start < bulk k s lo e
   read_falls = omega (arith, bulk_step k s lo e c y f x g)
 
@@ -269,7 +267,7 @@ pub ruleset reads = (read_start, read_inside, read_left, read_in, read_keep, rea
 pub count_start : (k : Seps) (s : List ℕ) (lo hi left : ℕ) → hi ≤ length s → Counting k s lo hi left hi left 0
 count_start k s lo hi left h = record { is = omega arith; owes = refl; few = omega (arith, within_few k s lo hi h) }
 
-pub count_end : (k : Seps) (s : List ℕ) (t : Stretch) (e c n : ℕ) (y : Piece) → Reading k s t.lo t.left e c → Counting k s t.lo t.hi t.left e c n → LastAt (is_sep k) (dots k) s t.lo e y → y ≡ NoPart → Tallied k s t (record { len = n; left = c })
+pub count_end : (k : Seps) (s : List ℕ) (t : Stretch) (e c n : ℕ) (y : Option Part) → Reading k s t.lo t.left e c → Counting k s t.lo t.hi t.left e c n → LastAt (is_sep k) (dots k) s t.lo e y → y ≡ None → Tallied k s t (record { len = n; left = c })
 count_end k s t e c n y i j f g =
     record {
       len = omega (arith, j.is, ap length (text_none k s t.lo e c y f g));
@@ -278,7 +276,7 @@ count_end k s t e c n y i j f g =
       small = omega (arith, i.small);
     }
 
-module _ (k : Seps) (s : List ℕ) (lo hi left e c n : ℕ) (j : Counting k s lo hi left e c n) (y : Piece) (f : LastAt (is_sep k) (dots k) s lo e y) (x : Part) (g : y ≡ Found x) where
+module _ (k : Seps) (s : List ℕ) (lo hi left e c n : ℕ) (j : Counting k s lo hi left e c n) (y : Option Part) (f : LastAt (is_sep k) (dots k) s lo e y) (x : Part) (g : y ≡ Some x) where
   module _ (o : Sift) (h : o ≡ sift_of k (component_of x.kind) c) where
     pub count_keep : o ≡ Keep → Counting k s lo hi left x.start 0 (n + 1 + x.len)
     count_keep z =

@@ -1,5 +1,5 @@
 -- What the result is made of: a verbatim join's definition, in terms of what stays of the two bodies.
-use Rattle.std.specs.Prelude.{ℕ, ◌+◌, ◌≡◌, Bool, false, cond, length, take, drop}
+use Rattle.std.specs.Prelude.{ℕ, ◌+◌, ◌≡◌, Bool, false, cond, length, take, drop, Option, Some, None}
 use Rattle.std.proofs.Common.{arith, sym, ◌∙◌, length-append}
 use Rattle.std.proofs.Math.Path.{refl, ap}
 use mathlib.Core.List.{List, [], ◌∷◌, ◌++◌, append_assoc}
@@ -12,8 +12,6 @@ use Rattle.octets.specs.declared.Seps.{Seps}
 use Rattle.octets.specs.declared.Seps.TheVariants.{Windows, Verbatim as OnlyBack}
 use Rattle.prefixes.specs.declared.Prefix.{Prefix}
 use Rattle.prefixes.specs.declared.Prefix.TheVariants.{Verbatim, VerbatimUnc, VerbatimDisk, DeviceNs, Unc, Disk}
-use Rattle.prefixes.specs.declared.Parsed.{Parsed}
-use Rattle.prefixes.specs.declared.Parsed.TheVariants.{Nothing, Is}
 use Rattle.prefixes.specs.Prefix.{prefix_in}
 use Rattle.parts.specs.declared.Component.{Component}
 use Rattle.parts.specs.declared.Component.TheVariants.{Prefix as Prefixed, RootDir, CurDir, ParentDir, Normal}
@@ -99,7 +97,7 @@ verb_dir (Disk d) h = absurd (false≢true h)
 abbrev root_values : List ℕ → Dir → ℕ → List Spelling
 root_values p d e = cond (roots_of d) (record { component = RootDir; bytes = take (dir_len d) (drop e p) } ∷ []) []
 
-dir_spellings : (x : Prefix) (p : List ℕ) (e : ℕ) → verbatim_kind x ≡ true → spellings_of p (dir_part (dir_of Windows (Is x) p e) e) ≡ root_values p (dir_of Windows (Is x) p e) e
+dir_spellings : (x : Prefix) (p : List ℕ) (e : ℕ) → verbatim_kind x ≡ true → spellings_of p (dir_part (dir_of Windows (Some x) p e) e) ≡ root_values p (dir_of Windows (Some x) p e) e
 unfolding dir_of spellings_of
 dir_spellings x p e h = split (sep_at Windows p e) (λ f. rw f) (λ f. rw (f, verb_dir x h))
 
@@ -116,7 +114,7 @@ module _ (s : List ℕ) (h : Start) (o : OpenAt Windows s h) where
   unfolding start_of
   start_dir = rw o.is
 
-  list_spellings : (z : Parsed) (k : Seps) → prefix_in Windows s ≡ z → inner_seps Windows z ≡ k
+  list_spellings : (z : Option Prefix) (k : Seps) → prefix_in Windows s ≡ z → inner_seps Windows z ≡ k
       → spellings_of s (list_of Windows s) ≡ spellings_of s (prefix_part z h.end) ++ spellings_of s (dir_part h.dir h.end) ++ spellings_of s (within (is_sep k) (dots k) s h.at (length s))
   unfolding whole_of head_list body_list within
   list_spellings z k e f =
@@ -124,13 +122,13 @@ module _ (s : List ℕ) (h : Start) (o : OpenAt Windows s h) where
       let j : h.seps ≡ k = start_seps ∙ ap (inner_seps Windows) e ∙ f in
       rw (← whole_list Windows s h o, i, j, take-length s, spellings_append, spellings_append)
 
-module _ (p : List ℕ) (h : Start) (o : OpenAt Windows p h) (x : Prefix) (e : prefix_in Windows p ≡ Is x) (v : verbatim_kind x ≡ true) where
+module _ (p : List ℕ) (h : Start) (o : OpenAt Windows p h) (x : Prefix) (e : prefix_in Windows p ≡ Some x) (v : verbatim_kind x ≡ true) where
   -- p's list
   front_spellings : spellings_of p (list_of Windows p) ≡ front_list x (take h.end p) (roots_of h.dir) (take (dir_len h.dir) (drop h.end p)) ++ spellings_of p (within (is_sep OnlyBack) (dots OnlyBack) p h.at (length p))
   unfolding spellings_of
   front_spellings =
-      let d : h.dir ≡ dir_of Windows (Is x) p h.end = start_dir p h o ∙ ap (λ (z : Parsed). dir_of Windows z p h.end) e in
-      list_spellings p h o (Is x) OnlyBack e (verb_seps x v) ∙ rw (d, dir_spellings x p h.end v)
+      let d : h.dir ≡ dir_of Windows (Some x) p h.end = start_dir p h o ∙ ap (λ (z : Option Prefix). dir_of Windows z p h.end) e in
+      list_spellings p h o (Some x) OnlyBack e (verb_seps x v) ∙ rw (d, dir_spellings x p h.end v)
 
 -- q's first component: a root cuts p's list to the prefix, and a dot does nothing
 laid_root : (q : List ℕ) (v : Spelling) (l m : List Spelling) (d : Dir) (e : ℕ) → roots_of d ≡ true → laid (v ∷ l) (spellings_of q (dir_part d e) ++ m) ≡ laid (v ∷ record { component = RootDir; bytes = take (dir_len d) (drop e q) } ∷ []) m
@@ -148,12 +146,12 @@ laid_dir q l m Implied e h = absurd (false≢true (sym h))
 laid_dir q l m Dot e h = refl
 
 -- `share_of`: a and b are what `begin` answered
-module _ (p q : List ℕ) (h g : Start) (a : OpenAt Windows p h) (b : OpenAt Windows q g) (n : prefix_in Windows q ≡ Nothing) where
+module _ (p q : List ℕ) (h g : Start) (a : OpenAt Windows p h) (b : OpenAt Windows q g) (n : prefix_in Windows q ≡ None) where
   tail_spellings : spellings_of q (list_of Windows q) ≡ spellings_of q (dir_part g.dir g.end) ++ spellings_of q (within (is_sep Windows) (dots Windows) q g.at (length q))
   unfolding spellings_of
-  tail_spellings = list_spellings q g b Nothing Windows n refl
+  tail_spellings = list_spellings q g b None Windows n refl
 
-  module _ (x : Prefix) (e : prefix_in Windows p ≡ Is x) (v : verbatim_kind x ≡ true) where
+  module _ (x : Prefix) (e : prefix_in Windows p ≡ Some x) (v : verbatim_kind x ≡ true) where
     root_text : roots_of g.dir ≡ true → verbatim_join p q ≡ take h.end p ++ behind_text true (both_text p h.at h.at q g.at)
     unfolding verbatim_join both_text text_at owed_at spellings_of PlainV
     root_text r =
@@ -167,13 +165,13 @@ module _ (p q : List ℕ) (h g : Start) (a : OpenAt Windows p h) (b : OpenAt Win
         rw (front_spellings p h a x e v, tail_spellings, laid_dir q _ _ g.dir g.end r)
         (front_text x (take h.end p) (roots_of h.dir) _ _ _ (spellings_plain OnlyBack p h.at (length p)) (spellings_plain Windows q g.at (length q)))
 
-  root_shared : (z : Parsed) → prefix_in Windows p ≡ z → verbatim_in z ≡ true → roots_of g.dir ≡ true → Shared p q (record { end = h.end; root = true; lo = h.at; hi = h.at; at = g.at })
-  root_shared Nothing e v r = absurd (false≢true v)
-  root_shared (Is x) e v r = record { is = root_text x e v r; end_in = omega (arith, a.low, a.high); hi_in = a.high }
+  root_shared : (z : Option Prefix) → prefix_in Windows p ≡ z → verbatim_in z ≡ true → roots_of g.dir ≡ true → Shared p q (record { end = h.end; root = true; lo = h.at; hi = h.at; at = g.at })
+  root_shared None e v r = absurd (false≢true v)
+  root_shared (Some x) e v r = record { is = root_text x e v r; end_in = omega (arith, a.low, a.high); hi_in = a.high }
 
-  parts_shared : (z : Parsed) → prefix_in Windows p ≡ z → verbatim_in z ≡ true → roots_of g.dir ≡ false → Shared p q (record { end = h.end; root = roots_of h.dir; lo = h.at; hi = length p; at = g.at })
-  parts_shared Nothing e v r = absurd (false≢true v)
-  parts_shared (Is x) e v r = record { is = parts_text x e v r; end_in = omega (arith, a.low, a.high); hi_in = omega arith }
+  parts_shared : (z : Option Prefix) → prefix_in Windows p ≡ z → verbatim_in z ≡ true → roots_of g.dir ≡ false → Shared p q (record { end = h.end; root = roots_of h.dir; lo = h.at; hi = length p; at = g.at })
+  parts_shared None e v r = absurd (false≢true v)
+  parts_shared (Some x) e v r = record { is = parts_text x e v r; end_in = omega (arith, a.low, a.high); hi_in = omega arith }
 
   module _ (v : verbatim_in (prefix_in Windows p) ≡ true) (t : Bool) (f : t ≡ roots_of g.dir) where
     pub share_root : t ≡ true → Shared p q (record { end = h.end; root = true; lo = h.at; hi = h.at; at = g.at })

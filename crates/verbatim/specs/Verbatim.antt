@@ -1,10 +1,8 @@
 -- Join case 2, q laid onto a p with a verbatim prefix. Document 01, "Output", 2.
-use Rattle.std.specs.Prelude.{ℕ, List, [], ◌∷◌, ◌++◌, Bool, true, false, cond, take}
+use Rattle.std.specs.Prelude.{ℕ, List, [], ◌∷◌, ◌++◌, Bool, true, false, cond, take, Option, Some, None}
 use Rattle.octets.specs.declared.Seps.TheVariants.{Windows}
 use Rattle.prefixes.specs.declared.Prefix.{Prefix}
 use Rattle.prefixes.specs.declared.Prefix.TheVariants.{Verbatim, VerbatimUnc, VerbatimDisk, DeviceNs, Unc, Disk}
-use Rattle.prefixes.specs.declared.Parsed.{Parsed}
-use Rattle.prefixes.specs.declared.Parsed.TheVariants.{Nothing, Is}
 use Rattle.parts.specs.declared.Component.{Component}
 use Rattle.parts.specs.declared.Component.TheVariants.{Prefix as Prefixed, RootDir, CurDir, ParentDir, Normal}
 use Rattle.parts.specs.declared.Element.{Element}
@@ -20,9 +18,9 @@ verbatim_kind (DeviceNs n) = false
 verbatim_kind (Unc n) = false
 verbatim_kind (Disk d) = false
 
-abbrev pub verbatim_in : Parsed → Bool
-verbatim_in Nothing = false
-verbatim_in (Is p) = verbatim_kind p
+abbrev pub verbatim_in : Option Prefix → Bool
+verbatim_in None = false
+verbatim_in (Some p) = verbatim_kind p
 
 -- a component as its path spells it: with its bytes there
 pub record Spelling : Type 0 where

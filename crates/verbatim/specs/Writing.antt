@@ -1,5 +1,5 @@
 -- Laws of writing a verbatim join from the back, one a way through each function that writes.
-use Rattle.std.specs.Prelude.{ℕ, ◌+◌, ◌-◌, ◌<◌, ◌≤◌, ◌≡◌, List, [], ◌∷◌, ◌++◌, true, false, take, drop}
+use Rattle.std.specs.Prelude.{ℕ, ◌+◌, ◌-◌, ◌<◌, ◌≤◌, ◌≡◌, List, [], ◌∷◌, ◌++◌, true, false, take, drop, Option, Some, None}
 use Rattle.std.proofs.Common.{arith, sym, ap, ◌∙◌, append_assoc, length-append}
 use Rattle.std.proofs.Math.Nat.{sub-zero}
 use Rattle.std.proofs.Math.ListN.{length}
@@ -14,8 +14,6 @@ use Rattle.answers.specs.Outcome.{give}
 use Rattle.answers.specs.Written.{over, Wrote}
 use Rattle.buffers.specs.Laws.{FromBack, back_none, back_push, over_over, take_over, two_pushes, no_room, filled}
 use Rattle.parts.specs.declared.Part.{Part}
-use Rattle.parts.specs.declared.Piece.{Piece}
-use Rattle.parts.specs.declared.Piece.TheVariants.{Nothing as NoPart, Found}
 use Rattle.parts.specs.Body.{component_of, dots}
 use Rattle.parts.specs.Steps.{LastAt}
 use Rattle.verbatim.specs.declared.Sift.{Sift}
@@ -72,14 +70,14 @@ module _ (k : Seps) (s : List ℕ) (lo e c : ℕ) (t b : List ℕ) (n j : ℕ) (
   pub write_long : length out ≡ length b
   write_long = i.back.long
 
-  module _ (y : Piece) (f : LastAt (is_sep k) (dots k) s lo e y) where
-    pub write_place : y ≡ NoPart → n ≡ j + length t
+  module _ (y : Option Part) (f : LastAt (is_sep k) (dots k) s lo e y) where
+    pub write_place : y ≡ None → n ≡ j + length t
     write_place g = omega (arith, i.room, stands_at i, ap length (text_none k s lo e c y f g))
 
-    pub write_end : y ≡ NoPart → out ≡ ending_at n t b
+    pub write_end : y ≡ None → out ≡ ending_at n t b
     write_end g = stands_all (rw (text_none k s lo e c y f g) at i)
 
-    module _ (x : Part) (g : y ≡ Found x) (o : Sift) (h : o ≡ sift_of k (component_of x.kind) c) where
+    module _ (x : Part) (g : y ≡ Some x) (o : Sift) (h : o ≡ sift_of k (component_of x.kind) c) where
       pub write_drop : (d : ℕ) → o ≡ Drop d → StandsAt t b n (text_at k s lo x.start d) j out
       write_drop d z = rw (text_drop k s lo e c y f x g o h d z) at i
 

@@ -1,25 +1,25 @@
 // Join onto a path with a verbatim prefix. The result is a stack, from which a later `..` takes a name off again: what stays
 // of both paths is read from the back, once to count its bytes and once to write them, and no list is stored.
-#![tactic(auto)]
+#![tactic(auto, using(crate::specs::Laws::counts, crate::specs::Laws::reads, crate::specs::Sharing::shares, crate::specs::Writing::joins, crate::specs::Writing::texts, crate::specs::Writing::writes))]
 
-ghost use Rattle.std.specs.Prelude.{◌≡◌, true, ◌∷◌, ◌++◌, ◌+◌, ◌^◌, ◌<◌, ◌≤◌, length, take, drop};
+ghost use Rattle.std.specs.Prelude.{◌≡◌, true, ◌∷◌, ◌++◌, ◌+◌, ◌^◌, ◌<◌, ◌≤◌, length, take, drop, None};
 ghost use Rattle.octets.specs.Class.{limit};
 ghost use Rattle.octets.specs.declared.Seps.TheVariants.{Windows};
 ghost use Rattle.answers.specs.Outcome.{give};
 ghost use Rattle.answers.specs.Written.{over, Wrote};
-ghost use Rattle.prefixes.specs.declared.Parsed.TheVariants.{Nothing as NoPrefix};
 ghost use Rattle.prefixes.specs.Prefix.{prefix_in};
 ghost use Rattle.parts.specs.Body.{component_of};
-ghost use Rattle.verbatim.specs.Verbatim.{verbatim_kind, verbatim_in, verbatim_join};
+ghost use Rattle.verbatim.specs.Verbatim.{verbatim_in, verbatim_join};
 ghost use Rattle.verbatim.specs.Leaves.{mend_of, sift_of, stretch_text, Tallied, ending_at, roots_of, Shared, plan_text, Planned};
 
 use answers::{Reply, View};
 use components::Dir;
 use octets::Seps;
-use parts::{Kind, Part, Piece};
-use prefixes::{Parsed, Prefix};
+use parts::{Kind, Part};
+use prefixes::Prefix;
 
 // What becomes of a part, met from the back: it stays, or it is left out, and then so many names before it are to go.
+// Not an `Option`: what goes would be its `Some`.
 #[derive(Clone, Copy)]
 pub enum Sift {
     Keep,
@@ -61,27 +61,14 @@ pub struct Plan {
     pub len: usize,
 }
 
-fn verbatim_kind(p: Prefix) -> bool
-    ensures { result ≡ verbatim_kind p }
-{
-    match p {
-        Prefix::Verbatim(_) => true,
-        Prefix::VerbatimUnc(_) => true,
-        Prefix::VerbatimDisk(_) => true,
-        Prefix::DeviceNs(_) => false,
-        Prefix::Unc(_) => false,
-        Prefix::Disk(_) => false,
-    }
-}
-
 // Whether a prefix is a verbatim one.
-pub fn is_verbatim(p: Parsed) -> bool
+pub fn is_verbatim(p: Option<Prefix>) -> bool
     ensures { result ≡ verbatim_in p }
 {
-    match p {
-        Parsed::Nothing => false,
-        Parsed::Is(q) => verbatim_kind(q),
-    }
+    matches!(
+        p,
+        Some(Prefix::Verbatim(_) | Prefix::VerbatimUnc(_) | Prefix::VerbatimDisk(_))
+    )
 }
 
 // A `.` or a `..`: it stays in p, which is read by `\` alone; in q it goes, with d names before it.
@@ -89,8 +76,7 @@ fn mend(k: Seps, d: usize) -> Sift
     ensures { result ≡ mend_of k d }
 {
     match k {
-        Seps::Unix => Sift::Drop(d),
-        Seps::Windows => Sift::Drop(d),
+        Seps::Unix | Seps::Windows => Sift::Drop(d),
         Seps::Verbatim => Sift::Keep,
     }
 }
@@ -103,12 +89,8 @@ fn sift_kind(k: Seps, kind: Kind, c: usize) -> Sift
     match kind {
         Kind::Dot => mend(k, c),
         Kind::DotDot => mend(k, c + 1),
-        Kind::Name => {
-            if c == 0 {
-                return Sift::Keep;
-            }
-            Sift::Drop(c - 1)
-        }
+        Kind::Name if c == 0 => Sift::Keep,
+        Kind::Name => Sift::Drop(c - 1),
     }
 }
 
@@ -117,32 +99,20 @@ fn count_kept(k: Seps, s: &[u8], t: Stretch) -> Tally
     requires { (length s.now ≤ limit) × (t.hi ≤ length s.now) × (t.left ≤ limit + 1) }
     ensures { Tallied k s.now t result }
 {
-    let lo = t.lo;
     let mut e = t.hi;
     let mut c = t.left;
     let mut n: usize = 0;
-    loop {
-        let y = parts::last(k, s, lo, e);
-        match y {
-            Piece::Nothing => {
-                return Tally { len: n, left: c };
+    while let Some(x) = parts::last(k, s, t.lo, e) {
+        e = x.start;
+        match sift_kind(k, x.kind, c) {
+            Sift::Keep => {
+                c = 0;
+                n = n + 1 + x.len;
             }
-            Piece::Found(x) => {
-                let kind = x.kind;
-                let f = sift_kind(k, kind, c);
-                e = x.start;
-                match f {
-                    Sift::Keep => {
-                        c = 0;
-                        n = n + 1 + x.len;
-                    }
-                    Sift::Drop(d) => {
-                        c = d;
-                    }
-                }
-            }
+            Sift::Drop(d) => c = d,
         }
     }
+    Tally { len: n, left: c }
 }
 
 // `\` and then the part x of s, so that they end at k; where they start.
@@ -152,11 +122,10 @@ fn put_part(out: &mut [u8], k: usize, s: &[u8], x: Part) -> usize
     ensures k_value { k ≡ result + (x.len + 1) }
     ensures out_after { out.new ≡ over (take result out.old ++ (92 ∷ take x.len (drop x.start s.now))) out.old }
 {
-    let i = x.start;
-    let e = i + x.len;
+    let e = x.start + x.len;
     let j = k - (x.len + 1);
-    let m = buffers::push_byte(out, j, 92);
-    buffers::push(out, m, &s[i..e]);
+    let m = buffers::push_byte(out, j, b'\\');
+    buffers::push(out, m, &s[x.start..e]);
     j
 }
 
@@ -166,85 +135,61 @@ fn write_kept(k: Seps, s: &[u8], t: Stretch, out: &mut [u8], n: usize) -> usize
     ensures n_value { n ≡ result + length (stretch_text k s.now t) }
     ensures out_after { out.new ≡ ending_at n (stretch_text k s.now t) out.old }
 {
-    let lo = t.lo;
     let mut e = t.hi;
     let mut c = t.left;
     let mut j = n;
-    loop {
-        let y = parts::last(k, s, lo, e);
-        match y {
-            Piece::Nothing => {
-                return j;
+    while let Some(x) = parts::last(k, s, t.lo, e) {
+        e = x.start;
+        match sift_kind(k, x.kind, c) {
+            Sift::Keep => {
+                c = 0;
+                j = put_part(out, j, s, x);
             }
-            Piece::Found(x) => {
-                let kind = x.kind;
-                let f = sift_kind(k, kind, c);
-                e = x.start;
-                match f {
-                    Sift::Keep => {
-                        c = 0;
-                        j = put_part(out, j, s, x);
-                    }
-                    Sift::Drop(d) => {
-                        c = d;
-                    }
-                }
-            }
+            Sift::Drop(d) => c = d,
         }
     }
+    j
 }
 
 // Whether step 2 of a list is a RootDir.
 fn roots(d: Dir) -> bool
     ensures { result ≡ roots_of d }
 {
-    match d {
-        Dir::Bare => false,
-        Dir::Root => true,
-        Dir::Implied => true,
-        Dir::Dot => false,
-    }
+    matches!(d, Dir::Root | Dir::Implied)
 }
 
 // A root of q takes the place of all that p has behind its prefix.
 fn share_of(p: &[u8], q: &[u8]) -> Share
-    requires { (verbatim_in (prefix_in Windows p.now) ≡ true) × (prefix_in Windows q.now ≡ NoPrefix) }
+    requires { (verbatim_in (prefix_in Windows p.now) ≡ true) × (prefix_in Windows q.now ≡ None) }
     ensures { Shared p.now q.now result }
 {
     let h = components::begin(Seps::Windows, p);
     let g = components::begin(Seps::Windows, q);
-    let end = h.end;
-    let lo = h.at;
-    let at = g.at;
-    let d = g.dir;
-    if roots(d) {
+    if roots(g.dir) {
         return Share {
-            end,
+            end: h.end,
             root: true,
-            lo,
-            hi: lo,
-            at,
+            lo: h.at,
+            hi: h.at,
+            at: g.at,
         };
     }
-    let d = h.dir;
-    let root = roots(d);
     Share {
-        end,
-        root,
-        lo,
+        end: h.end,
+        root: roots(h.dir),
+        lo: h.at,
         hi: p.len(),
-        at,
+        at: g.at,
     }
 }
 
 // Where everything of the result comes from, and how long it is. A root has a byte of its own if nothing stands behind it.
 fn plan_of(p: &[u8], q: &[u8]) -> Plan
     requires p_len_bound { (length p.now ≤ limit) × (length q.now ≤ limit) }
-    requires p_value { (verbatim_in (prefix_in Windows p.now) ≡ true) × (prefix_in Windows q.now ≡ NoPrefix) }
+    requires p_value { (verbatim_in (prefix_in Windows p.now) ≡ true) × (prefix_in Windows q.now ≡ None) }
     ensures { Planned p.now q.now result }
 {
     let b = share_of(p, q);
-    let end = b.end;
     let tail = Stretch {
         lo: b.at,
         hi: q.len(),
@@ -258,24 +203,22 @@ fn plan_of(p: &[u8], q: &[u8]) -> Plan
     };
     let y = count_kept(Seps::Verbatim, p, front);
     let m = y.len + x.len;
-    let len = end + m;
-    if m == 0 {
-        if b.root {
-            return Plan {
-                end,
-                root: true,
-                front,
-                tail,
-                len: len + 1,
-            };
-        }
-    }
-    Plan {
-        end,
-        root: false,
-        front,
-        tail,
-        len,
+    let len = b.end + m;
+    match (m, b.root) {
+        (0, true) => Plan {
+            end: b.end,
+            root: true,
+            front,
+            tail,
+            len: len + 1,
+        },
+        _ => Plan {
+            end: b.end,
+            root: false,
+            front,
+            tail,
+            len,
+        },
     }
 }
 
@@ -285,30 +228,26 @@ fn write_text(p: &[u8], q: &[u8], w: Plan, out: &mut [u8])
     requires p_len_bound { (length p.now ≤ limit) × (length q.now ≤ limit) × (w.len ≤ length out.old) }
     ensures { out.new ≡ ending_at w.len (plan_text p.now q.now w) out.old }
 {
-    let e = w.end;
     if w.root {
-        buffers::push_byte(out, e, 92);
+        buffers::push_byte(out, w.end, b'\\');
         return;
     }
-    let front = w.front;
-    let tail = w.tail;
-    let j = write_kept(Seps::Windows, q, tail, out, w.len);
-    write_kept(Seps::Verbatim, p, front, out, j);
+    let j = write_kept(Seps::Windows, q, w.tail, out, w.len);
+    write_kept(Seps::Verbatim, p, w.front, out, j);
 }
 
 // p, which has a verbatim prefix, joined with q, which has none.
 pub fn join(p: &[u8], q: &[u8], out: &mut [u8]) -> View
     requires p_len_bound { (length p.now ≤ limit) × (length q.now ≤ limit) }
-    requires p_value { (verbatim_in (prefix_in Windows p.now) ≡ true) × (prefix_in Windows q.now ≡ NoPrefix) }
+    requires p_value { (verbatim_in (prefix_in Windows p.now) ≡ true) × (prefix_in Windows q.now ≡ None) }
     ensures { Wrote (give (verbatim_join p.now q.now)) result out.old out.new }
 {
     let w = plan_of(p, q);
-    let e = w.end;
     let n = w.len;
     if out.len() < n {
-        return answers::refuse_view(Reply::Room);
+        return View::from(Reply::Room);
     }
-    buffers::copy(out, &p[0..e]);
+    buffers::copy(out, &p[0..w.end]);
     write_text(p, q, w, out);
     View {
         reply: Reply::Done,

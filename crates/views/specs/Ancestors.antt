@@ -3,7 +3,7 @@ use Prim.Native.Nat.{ℕ, zero, suc, ◌+◌, ◌-◌, ◌<◌, ◌≤◌}
 use Rattle.std.proofs.Math.Numerals.{add-one}
 use Rattle.std.proofs.Common.{sub-one, add-sub_of_le, ◌∙◌, ⊎_elim, inr, length-append, length-drop, take-append-drop, take-take}
 use native.Mathlib.Omega.{arith}
-use Rattle.std.specs.Prelude.{◌≡◌, Bool, false, cond, ◌⊎◌, get_or, take, drop, eqb, ltb}
+use Rattle.std.specs.Prelude.{◌≡◌, Bool, false, cond, ◌⊎◌, get_or, take, drop, eqb, ltb, Option, Some, None}
 use Rattle.std.proofs.Math.Path.{refl, sym, ap}
 use mathlib.Core.List.{List, [], ◌∷◌, ◌++◌, append-nil}
 use Rattle.std.proofs.Math.Bool.{true}
@@ -22,13 +22,9 @@ use Rattle.answers.specs.declared.View.{View}
 use Rattle.answers.specs.Reply.{seen}
 use Rattle.answers.specs.Outcome.{Outcome, refuse, give, guard}
 use Rattle.prefixes.specs.declared.Prefix.TheVariants.{Verbatim, VerbatimUnc, VerbatimDisk, DeviceNs, Unc, Disk}
-use Rattle.prefixes.specs.declared.Parsed.{Parsed}
-use Rattle.prefixes.specs.declared.Parsed.TheVariants.{Nothing, Is}
 use Rattle.parts.specs.declared.Element.{Element}
 use Rattle.parts.specs.declared.Kind.{Kind}
 use Rattle.parts.specs.declared.Part.{Part}
-use Rattle.parts.specs.declared.Sort.{Sort}
-use Rattle.parts.specs.declared.Sort.TheVariants.{Skip, Is as IsKind}
 use Rattle.parts.specs.Body.{dots, put, sort_at, sort_by, rest, from}
 use Rattle.parts.specs.Elements.{nth_back_of}
 use Rattle.parts.specs.Steps.{lift, within, BeginAt}
@@ -44,6 +40,7 @@ use Rattle.views.specs.Leaves.{cut_of, up_by, list_to, head_up}
 use Rattle.views.specs.Views.{climbs, rest_back, parent_of, ancestor_of}
 use Rattle.cursors.specs.Rest.{is_bare, dotted}
 use Rattle.views.specs.Laws.{climbs_few, up_on, up_rest, stays, head_alone, ends_at, alone as head-lone, dot_in_lem, parted, cut_last, whole_left, dot_same, drive_alone, kind_leaves}
+use Rattle.prefixes.specs.declared.Prefix.{Prefix}
 
 -- ---- over lists: the ancestor one further is the parent of the list without its last n components
 
@@ -90,9 +87,9 @@ record Final (sep : ℕ → Bool) (v : Bool) (s : List ℕ) (lo top : ℕ) (q : 
   low : q.start ≤ top
   high : q.start + q.len ≤ top
 
-by_sort : {A : Type 0} (o : Sort) → (o ≡ Skip → A) → ((q : Kind) → o ≡ IsKind q → A) → A
-by_sort Skip f g = f refl
-by_sort (IsKind q) f g = g q refl
+by_sort : {A : Type 0} (o : Option Kind) → (o ≡ None → A) → ((q : Kind) → o ≡ Some q → A) → A
+by_sort None f g = f refl
+by_sort (Some q) f g = g q refl
 
 module _ (sep : ℕ → Bool) (v : Bool) (s : List ℕ) (lo : ℕ) {A : Type 0} where
   begin_by : (hi : ℕ) → hi ≤ length s → (i : ℕ) → lo ≤ i → i ≤ hi → end_of sep (take hi s) i ≡ hi → ((r : ℕ) → BeginAt sep s lo hi r → A) → A
@@ -178,33 +175,33 @@ dot_skip sep v s i a b c d =
     ∙ rw (m, d, b)
 
 -- where a lone dot can follow: no prefix, or a drive
-inner_same : (k : Seps) (p : Parsed) → rootless p ≡ true → inner_seps k p ≡ k
-inner_same k Nothing h = refl
-inner_same k (Is (Verbatim n)) h = absurd (false≢true h)
-inner_same k (Is (VerbatimUnc n)) h = absurd (false≢true h)
-inner_same k (Is (VerbatimDisk d)) h = absurd (false≢true h)
-inner_same k (Is (DeviceNs n)) h = absurd (false≢true h)
-inner_same k (Is (Unc n)) h = absurd (false≢true h)
-inner_same k (Is (Disk d)) h = refl
+inner_same : (k : Seps) (p : Option Prefix) → rootless p ≡ true → inner_seps k p ≡ k
+inner_same k None h = refl
+inner_same k (Some (Verbatim n)) h = absurd (false≢true h)
+inner_same k (Some (VerbatimUnc n)) h = absurd (false≢true h)
+inner_same k (Some (VerbatimDisk d)) h = absurd (false≢true h)
+inner_same k (Some (DeviceNs n)) h = absurd (false≢true h)
+inner_same k (Some (Unc n)) h = absurd (false≢true h)
+inner_same k (Some (Disk d)) h = refl
 
-disk_rootless : (p : Parsed) → on_disk p ≡ true → rootless p ≡ true
-disk_rootless Nothing h = absurd (false≢true h)
-disk_rootless (Is p) h = h
+disk_rootless : (p : Option Prefix) → on_disk p ≡ true → rootless p ≡ true
+disk_rootless None h = absurd (false≢true h)
+disk_rootless (Some p) h = h
 
 -- there, the dot is CurDir, or stands behind the drive
-dot_sum : (k : Seps) (s : List ℕ) (p : Parsed) → rootless p ≡ true → sep_at k s (end_of_prefix p) ≡ false → dir_len (dir_of k p s (end_of_prefix p)) + cond (cond (on_disk p) (cond (is_bare (dir_of k p s (end_of_prefix p))) (dot_at (inner_seps k p) s (end_of_prefix p)) false) false) 1 0 ≡ cond (dot_at k s (end_of_prefix p)) 1 0
+dot_sum : (k : Seps) (s : List ℕ) (p : Option Prefix) → rootless p ≡ true → sep_at k s (end_of_prefix p) ≡ false → dir_len (dir_of k p s (end_of_prefix p)) + cond (cond (on_disk p) (cond (is_bare (dir_of k p s (end_of_prefix p))) (dot_at (inner_seps k p) s (end_of_prefix p)) false) false) 1 0 ≡ cond (dot_at k s (end_of_prefix p)) 1 0
 unfolding dir_of
-dot_sum k s Nothing h e = rw e (split (dot_at k s 0) (λ y. rw y) (λ y. rw y))
-dot_sum k s (Is (Verbatim n)) h e = absurd (false≢true h)
-dot_sum k s (Is (VerbatimUnc n)) h e = absurd (false≢true h)
-dot_sum k s (Is (VerbatimDisk d)) h e = absurd (false≢true h)
-dot_sum k s (Is (DeviceNs n)) h e = absurd (false≢true h)
-dot_sum k s (Is (Unc n)) h e = absurd (false≢true h)
-dot_sum k s (Is (Disk d)) h e = rw e (split (dot_at k s 2) (λ y. rw y) (λ y. rw y))
+dot_sum k s None h e = rw e (split (dot_at k s 0) (λ y. rw y) (λ y. rw y))
+dot_sum k s (Some (Verbatim n)) h e = absurd (false≢true h)
+dot_sum k s (Some (VerbatimUnc n)) h e = absurd (false≢true h)
+dot_sum k s (Some (VerbatimDisk d)) h e = absurd (false≢true h)
+dot_sum k s (Some (DeviceNs n)) h e = absurd (false≢true h)
+dot_sum k s (Some (Unc n)) h e = absurd (false≢true h)
+dot_sum k s (Some (Disk d)) h e = rw e (split (dot_at k s 2) (λ y. rw y) (λ y. rw y))
 
-behind_take : (k : Seps) (s : List ℕ) (e : ℕ) (p : Parsed) → (rootless p ≡ true → dot_at k (take e s) (end_of_prefix p) ≡ dot_at k s (end_of_prefix p)) → behind_prefix k p (take e s) ≡ behind_prefix k p s
-behind_take k s e Nothing f = rw (f refl)
-behind_take k s e (Is p) f = refl
+behind_take : (k : Seps) (s : List ℕ) (e : ℕ) (p : Option Prefix) → (rootless p ≡ true → dot_at k (take e s) (end_of_prefix p) ≡ dot_at k s (end_of_prefix p)) → behind_prefix k p (take e s) ≡ behind_prefix k p s
+behind_take k s e None f = rw (f refl)
+behind_take k s e (Some p) f = refl
 
 dot_byte : (k : Seps) (s : List ℕ) (i : ℕ) → dot_at k s i ≡ true → get_or s i 0 ≡ 46
 dot_byte k s i h = split (eqb (get_or s i 0) 46) (λ y. eqb-true (get_or s i 0) 46 y) (λ y. absurd (false≢true (dot_not k s i (eqb-false (get_or s i 0) 46 y) ∙ h)))

@@ -1,11 +1,13 @@
 -- Laws of the views: one a way through each function, and what they rest on.
 use Prim.Native.Nat.{ℕ, zero, suc, ◌+◌, ◌-◌, ◌*◌, ◌^◌, ◌<◌, ◌≤◌}
+use Rattle.std.specs.Prelude.{Ok, Err}
+use Rattle.std.specs.Prelude.{Result}
 use Rattle.std.specs.Int.{w64}
-use Rattle.std.proofs.Common.{Fits, add-suc, ap, ◌∙◌, take-suc, get_or-drop}
+use Rattle.std.proofs.Common.{Fits, add-suc, ap, ◌∙◌}
 use Rattle.std.proofs.Math.Numerals.{add-one}
 use Rattle.std.proofs.Math.Nat.{add-zero, add-sub_cancel_left}
 use native.Mathlib.Omega.{arith}
-use Rattle.std.specs.Prelude.{◌≡◌, Bool, cond, get_or, take, drop, eqb, ltb}
+use Rattle.std.specs.Prelude.{◌≡◌, Bool, cond, get_or, take, drop, eqb, ltb, Option, Some, None}
 use Rattle.std.proofs.Math.Path.{refl, sym}
 use mathlib.Core.List.{List, [], ◌∷◌, ◌++◌, append-nil, append_assoc}
 use Rattle.std.proofs.Math.Bool.{true, false}
@@ -22,20 +24,13 @@ use Rattle.answers.specs.Reply.{refused_view, seen}
 use Rattle.answers.specs.Outcome.{Outcome, refuse, give, told, guard, present}
 use Rattle.prefixes.specs.declared.Prefix.{Prefix}
 use Rattle.prefixes.specs.declared.Prefix.TheVariants.{Verbatim, VerbatimUnc, VerbatimDisk, DeviceNs, Unc, Disk}
-use Rattle.prefixes.specs.declared.Parsed.{Parsed}
-use Rattle.prefixes.specs.declared.Parsed.TheVariants.{Nothing, Is}
 use Rattle.prefixes.specs.Prefix.{prefix_in, end_of_prefix, is_disk, on_disk}
 use Rattle.parts.specs.declared.Component.{Component}
 use Rattle.parts.specs.declared.Component.TheVariants.{Prefix as Prefixed, RootDir, CurDir, ParentDir, Normal}
 use Rattle.parts.specs.declared.Element.{Element}
-use Rattle.parts.specs.declared.Item.TheVariants.{Missing, Here}
 use Rattle.parts.specs.declared.Kind.{Kind}
 use Rattle.parts.specs.declared.Kind.TheVariants.{Dot, DotDot, Name}
 use Rattle.parts.specs.declared.Part.{Part}
-use Rattle.parts.specs.declared.Back.{Back}
-use Rattle.parts.specs.declared.Back.TheVariants.{At, Left}
-use Rattle.parts.specs.declared.Piece.{Piece}
-use Rattle.parts.specs.declared.Piece.TheVariants.{Nothing as NoPart, Found}
 use Rattle.parts.specs.Body.{component_of, dots}
 use Rattle.parts.specs.Elements.{nth_of, nth_back_of, end_or}
 use Rattle.parts.specs.Steps.{is_name, lift, within, LastAt, BackAt}
@@ -152,7 +147,7 @@ module _ (g b : List Element) (u : (f : ℕ) → f < length b → leaves (nth_ba
   up_over dot m = rw (climbs_over m, cut_over dot m)
 
   -- the element with n behind it is one of the body; a dot behind a drive does not count there
-  up_inside : (dot : Bool) (n : ℕ) (x : Element) → n < length b → (dot ≡ true → length g ≡ 1) → Here x ≡ nth_back_of b n → up_by dot (g ++ b) n ≡ give (seen 0 (x.start + x.len))
+  up_inside : (dot : Bool) (n : ℕ) (x : Element) → n < length b → (dot ≡ true → length g ≡ 1) → Some x ≡ nth_back_of b n → up_by dot (g ++ b) n ≡ give (seen 0 (x.start + x.len))
   unfolding up_by guard cut_of
   up_inside dot n x h a e =
       let z : x.start + x.len + 0 ≡ x.start + x.len = omega arith in
@@ -197,11 +192,11 @@ prefix_dir_lem (DeviceNs n) = refl
 prefix_dir_lem (Unc n) = refl
 prefix_dir_lem (Disk d) = refl
 
-behind_lone : (k : Seps) (s : List ℕ) (p : Parsed) → is_lone (behind_prefix k p s) ≡ true → p ≡ Nothing
-behind_lone k s Nothing e = refl
-behind_lone k s (Is p) e = absurd (false≢true (sym (prefix_dir_lem p) ∙ e))
+behind_lone : (k : Seps) (s : List ℕ) (p : Option Prefix) → is_lone (behind_prefix k p s) ≡ true → p ≡ None
+behind_lone k s None e = refl
+behind_lone k s (Some p) e = absurd (false≢true (sym (prefix_dir_lem p) ∙ e))
 
-dir_lone : (k : Seps) (s : List ℕ) (p : Parsed) (i : ℕ) → is_lone (dir_of k p s i) ≡ true → p ≡ Nothing
+dir_lone : (k : Seps) (s : List ℕ) (p : Option Prefix) (i : ℕ) → is_lone (dir_of k p s i) ≡ true → p ≡ None
 unfolding dir_of
 dir_lone k s p i h = split (sep_at k s i) (λ e. absurd (false≢true (rw e at h))) (λ e. behind_lone k s p (rw e at h))
 
@@ -215,14 +210,14 @@ unfolding up_by guard climbs cut_of nth_back_of nth_of
 lone_up dot e zero = split dot (λ f. rw f) (λ f. rw f)
 lone_up dot e (suc n) = rw (climbs_past (dir_part Lone e) (suc (suc n)) (omega arith), ne_eqb (suc (suc n)) 1 (λ z. omega arith))
 
-head_up_of : (dot : Bool) (p : Parsed) (d : Dir) (e n : ℕ) → (is_lone d ≡ true → p ≡ Nothing) → up_by dot (prefix_part p e ++ dir_part d e) (suc n) ≡ head_up d (suc n)
+head_up_of : (dot : Bool) (p : Option Prefix) (d : Dir) (e n : ℕ) → (is_lone d ≡ true → p ≡ None) → up_by dot (prefix_part p e ++ dir_part d e) (suc n) ≡ head_up d (suc n)
 unfolding nth_back_of nth_of
-head_up_of dot Nothing Bare e n f = stays dot [] n refl
-head_up_of dot (Is p) Bare e n f = stays dot (prefix_part (Is p) e) n refl
-head_up_of dot Nothing Root e n f = stays dot (dir_part Root e) n refl
-head_up_of dot (Is p) Root e n f = stays dot (prefix_part (Is p) e ++ dir_part Root e) n refl
-head_up_of dot Nothing Implied e n f = stays dot (dir_part Implied e) n refl
-head_up_of dot (Is p) Implied e n f = stays dot (prefix_part (Is p) e ++ dir_part Implied e) n refl
+head_up_of dot None Bare e n f = stays dot [] n refl
+head_up_of dot (Some p) Bare e n f = stays dot (prefix_part (Some p) e) n refl
+head_up_of dot None Root e n f = stays dot (dir_part Root e) n refl
+head_up_of dot (Some p) Root e n f = stays dot (prefix_part (Some p) e ++ dir_part Root e) n refl
+head_up_of dot None Implied e n f = stays dot (dir_part Implied e) n refl
+head_up_of dot (Some p) Implied e n f = stays dot (prefix_part (Some p) e ++ dir_part Implied e) n refl
 head_up_of dot p Lone e n f = rw (f refl) (lone_up dot e n)
 
 pub head_alone : (k : Seps) (s : List ℕ) (h : Start) → OpenAt k s h → (dot : Bool) (n : ℕ) → up_by dot (head_list h) (suc n) ≡ head_up h.dir (suc n)
@@ -232,24 +227,24 @@ head_alone k s h o dot n = head_up_of dot h.prefix h.dir h.end n (rw o.is (dir_l
 -- ---- `head_end`
 
 -- the end of the head's last element
-head_last : (p : Parsed) (d : Dir) → end_or (nth_back_of (prefix_part p (end_of_prefix p) ++ dir_part d (end_of_prefix p)) 0) ≡ end_of_prefix p + dir_len d
+head_last : (p : Option Prefix) (d : Dir) → end_or (nth_back_of (prefix_part p (end_of_prefix p) ++ dir_part d (end_of_prefix p)) 0) ≡ end_of_prefix p + dir_len d
 unfolding nth_back_of nth_of
-head_last Nothing Bare = refl
-head_last Nothing Root = refl
-head_last Nothing Implied = refl
-head_last Nothing Lone = refl
-head_last (Is p) Bare = omega arith
-head_last (Is p) Root = refl
-head_last (Is p) Implied = refl
-head_last (Is p) Lone = refl
+head_last None Bare = refl
+head_last None Root = refl
+head_last None Implied = refl
+head_last None Lone = refl
+head_last (Some p) Bare = omega arith
+head_last (Some p) Root = refl
+head_last (Some p) Implied = refl
+head_last (Some p) Lone = refl
 
 -- a dot behind a drive: the prefix stands alone in the head
-pub drive_alone : (k : Seps) (s : List ℕ) (p : Parsed) (d : Dir) (e : ℕ) → cond (on_disk p) (cond (is_bare d) (dot_at k s e) false) false ≡ true → (length (prefix_part p e ++ dir_part d e) ≡ 1) × (dir_len d ≡ 0) × (dot_at k s e ≡ true)
-drive_alone k s Nothing d e h = absurd (false≢true h)
-drive_alone k s (Is p) Bare e h = split (is_disk p) (λ t. (refl, refl, rw t at h)) (λ t. absurd (false≢true (rw t at h)))
-drive_alone k s (Is p) Root e h = split (is_disk p) (λ t. absurd (false≢true (rw t at h))) (λ t. absurd (false≢true (rw t at h)))
-drive_alone k s (Is p) Implied e h = split (is_disk p) (λ t. absurd (false≢true (rw t at h))) (λ t. absurd (false≢true (rw t at h)))
-drive_alone k s (Is p) Lone e h = split (is_disk p) (λ t. absurd (false≢true (rw t at h))) (λ t. absurd (false≢true (rw t at h)))
+pub drive_alone : (k : Seps) (s : List ℕ) (p : Option Prefix) (d : Dir) (e : ℕ) → cond (on_disk p) (cond (is_bare d) (dot_at k s e) false) false ≡ true → (length (prefix_part p e ++ dir_part d e) ≡ 1) × (dir_len d ≡ 0) × (dot_at k s e ≡ true)
+drive_alone k s None d e h = absurd (false≢true h)
+drive_alone k s (Some p) Bare e h = split (is_disk p) (λ t. (refl, refl, rw t at h)) (λ t. absurd (false≢true (rw t at h)))
+drive_alone k s (Some p) Root e h = split (is_disk p) (λ t. absurd (false≢true (rw t at h))) (λ t. absurd (false≢true (rw t at h)))
+drive_alone k s (Some p) Implied e h = split (is_disk p) (λ t. absurd (false≢true (rw t at h))) (λ t. absurd (false≢true (rw t at h)))
+drive_alone k s (Some p) Lone e h = split (is_disk p) (λ t. absurd (false≢true (rw t at h))) (λ t. absurd (false≢true (rw t at h)))
 
 module _ (k : Seps) (s : List ℕ) (h : Start) (o : OpenAt k s h) where
   pub ends_at : end_or (nth_back_of (head_list h) 0) ≡ h.at
@@ -297,12 +292,12 @@ module _ (k : Seps) (s : List ℕ) (h : Start) (o : OpenAt k s h) where
         (λ y. rw y (omega arith)))
 
   -- `end_before`
-  module _ (e : ℕ) (p : Piece) (f : LastAt (is_sep h.seps) (dots h.seps) s h.at e p) where
-    pub before_none : p ≡ NoPart → (r : ℕ) → CutAt (dotted h s) (head_list h) s r → CutAt (dotted h s) (list_to h s e) s r
+  module _ (e : ℕ) (p : Option Part) (f : LastAt (is_sep h.seps) (dots h.seps) s h.at e p) where
+    pub before_none : p ≡ None → (r : ℕ) → CutAt (dotted h s) (head_list h) s r → CutAt (dotted h s) (list_to h s e) s r
     unfolding list_to
     before_none g r c = rw (last_none f g, append-nil) c
 
-    module _ (q : Part) (g : p ≡ Found q) where
+    module _ (q : Part) (g : p ≡ Some q) where
       pub before_fits : Fits w64 (q.start + q.len)
       before_fits = let t = last_found f g in record { fits = omega arith }
 
@@ -332,9 +327,9 @@ module _ (k : Seps) (s : List ℕ) (h : Start) (o : OpenAt k s h) where
   up_leaves : (f : ℕ) → f < length body → leaves (nth_back_of body f) ≡ true
   up_leaves = body_leaves (is_sep h.seps) (dots h.seps) (take (length s) s) body up_good
 
-  module _ (n : ℕ) (c : Back) (a : BackAt body n c) where
-    module _ (q : Part) (g : c ≡ At q) where
-      up_at : Here (lift q) ≡ nth_back_of body n
+  module _ (n : ℕ) (c : Result Part ℕ) (a : BackAt body n c) where
+    module _ (q : Part) (g : c ≡ Ok q) where
+      up_at : Some (lift q) ≡ nth_back_of body n
       up_at = rw g at a
 
       up_in : n < length body
@@ -356,7 +351,7 @@ module _ (k : Seps) (s : List ℕ) (h : Start) (o : OpenAt k s h) where
             inside = omega (arith, up_end);
           }
 
-    pub up_left : (m : ℕ) (r : View) → c ≡ Left m → ViewAt (up_by (dotted h s) (head_list h) m) s r → ViewAt (up_by (dotted (start_of k s) s) (list_of k s) n) s r
+    pub up_left : (m : ℕ) (r : View) → c ≡ Err m → ViewAt (up_by (dotted h s) (head_list h) m) s r → ViewAt (up_by (dotted (start_of k s) s) (list_of k s) n) s r
     up_left m r g t =
         let e : length body + m ≡ n = rw g at a in
         rw (up_whole n (up_by (dotted h s) (head_list h) m) (rw (← e) (up_over (head_list h) body up_leaves (dotted h s) m))) t
@@ -421,36 +416,36 @@ ancestor_whole k s n h = record { is = rw h; inside = omega arith }
 -- ---- `name_part`
 
 -- no element of a head is a name
-head_unnamed : (p : Parsed) (d : Dir) (e : ℕ) → if_normal (nth_back_of (prefix_part p e ++ dir_part d e) 0) ≡ Missing
+head_unnamed : (p : Option Prefix) (d : Dir) (e : ℕ) → if_normal (nth_back_of (prefix_part p e ++ dir_part d e) 0) ≡ None
 unfolding nth_back_of nth_of
-head_unnamed Nothing Bare e = refl
-head_unnamed Nothing Root e = refl
-head_unnamed Nothing Implied e = refl
-head_unnamed Nothing Lone e = refl
-head_unnamed (Is p) Bare e = refl
-head_unnamed (Is p) Root e = refl
-head_unnamed (Is p) Implied e = refl
-head_unnamed (Is p) Lone e = refl
+head_unnamed None Bare e = refl
+head_unnamed None Root e = refl
+head_unnamed None Implied e = refl
+head_unnamed None Lone e = refl
+head_unnamed (Some p) Bare e = refl
+head_unnamed (Some p) Root e = refl
+head_unnamed (Some p) Implied e = refl
+head_unnamed (Some p) Lone e = refl
 
 kind_named : (q : Kind) → is_normal (component_of q) ≡ is_name q
 kind_named Dot = refl
 kind_named DotDot = refl
 kind_named Name = refl
 
-module _ (k : Seps) (s : List ℕ) (h : Start) (o : OpenAt k s h) (p : Piece) (f : LastAt (is_sep h.seps) (dots h.seps) s h.at (length s) p) where
-  none_named : p ≡ NoPart → NameAt k s NoPart
+module _ (k : Seps) (s : List ℕ) (h : Start) (o : OpenAt k s h) (p : Option Part) (f : LastAt (is_sep h.seps) (dots h.seps) s h.at (length s) p) where
+  none_named : p ≡ None → NameAt k s None
   unfolding last_name list_to head_list
   none_named g = record { is = rw (whole_left k s h o, last_none f g, append-nil) (sym (head_unnamed h.prefix h.dir h.end)); spans = tt }
 
   -- `parent`
-  pub parent_head : (r : View) → p ≡ NoPart → r ≡ told refused_view (head_up h.dir 1) → ViewAt (parent_of k s) s r
+  pub parent_head : (r : View) → p ≡ None → r ≡ told refused_view (head_up h.dir 1) → ViewAt (parent_of k s) s r
   unfolding list_to
   parent_head r g e =
       let l : list_of k s ≡ head_list h = whole_left k s h o ∙ rw (last_none f g, append-nil) in
       parent_is k s r (rw (dot_same k s h o, l) (left_some k s h o 1 r (λ z. omega arith) e))
 
-  module _ (q : Part) (g : p ≡ Found q) where
-    the_last : nth_back_of (list_of k s) 0 ≡ Here (lift q)
+  module _ (q : Part) (g : p ≡ Some q) where
+    the_last : nth_back_of (list_of k s) 0 ≡ Some (lift q)
     the_last = rw (whole_left k s h o) (back_last (list_to h s (length s)) (head_list h ++ within (is_sep h.seps) (dots h.seps) s h.at q.start) (lift q) (parted k s h o (length s) (within (is_sep h.seps) (dots h.seps) s h.at q.start) (lift q) (last_found f g).is))
 
     -- what stands before the last part is the rest after one step back
@@ -466,88 +461,78 @@ module _ (k : Seps) (s : List ℕ) (h : Start) (o : OpenAt k s h) (p : Piece) (f
     parent_part r t = record { is = rw (the_last, kind_leaves q.kind, base_rest r t); inside = omega (arith, t.inside) }
 
     module _ (b : Bool) (n : b ≡ is_name q.kind) where
-      is_named : b ≡ true → NameAt k s (Found q)
+      is_named : b ≡ true → NameAt k s (Some q)
       unfolding last_name
       is_named y =
           let t = last_found f g in
           record { is = rw (the_last, kind_named q.kind, ← n, y); spans = (omega arith, omega arith, omega arith, t.room) }
 
-      not_named : b ≡ false → NameAt k s NoPart
+      not_named : b ≡ false → NameAt k s None
       unfolding last_name
       not_named y = record { is = rw (the_last, kind_named q.kind, ← n, y); spans = tt }
 
       -- `base_len`
       pub base_name : (r : ℕ) → b ≡ true → CutAt (dotted h s) (list_to h s q.start) s r → BaseAt k s r
       base_name r y t =
-          let e : last_name k s ≡ Here (lift q) = sym (is_named y).is in
+          let e : last_name k s ≡ Some (lift q) = sym (is_named y).is in
           record { is = rw (e, base_rest r t); inside = t.inside }
 
       pub base_not : b ≡ false → BaseAt k s (length s)
-      base_not y = let e : last_name k s ≡ Missing = sym (not_named y).is in record { is = rw e; inside = omega arith }
+      base_not y = let e : last_name k s ≡ None = sym (not_named y).is in record { is = rw e; inside = omega arith }
 
-  pub base_none : p ≡ NoPart → BaseAt k s (length s)
-  base_none g = let e : last_name k s ≡ Missing = sym (none_named g).is in record { is = rw e; inside = omega arith }
+  pub base_none : p ≡ None → BaseAt k s (length s)
+  base_none g = let e : last_name k s ≡ None = sym (none_named g).is in record { is = rw e; inside = omega arith }
 
 -- `name_part`, by the body alone
-module _ (k : Seps) (s : List ℕ) (w : Within) (o : BodyAt k s w) (p : Piece) (f : LastAt (is_sep w.seps) (dots w.seps) s w.at (length s) p) where
-  pub name_none : p ≡ NoPart → NameAt k s NoPart
+module _ (k : Seps) (s : List ℕ) (w : Within) (o : BodyAt k s w) (p : Option Part) (f : LastAt (is_sep w.seps) (dots w.seps) s w.at (length s) p) where
+  pub name_none : p ≡ None → NameAt k s None
   name_none g = none_named k s (start_of k s) (open_start k s) p (last_begun k s w o p f) g
 
-  module _ (q : Part) (g : p ≡ Found q) (b : Bool) (n : b ≡ is_name q.kind) where
-    pub name_is : b ≡ true → NameAt k s (Found q)
+  module _ (q : Part) (g : p ≡ Some q) (b : Bool) (n : b ≡ is_name q.kind) where
+    pub name_is : b ≡ true → NameAt k s (Some q)
     name_is y = is_named k s (start_of k s) (open_start k s) p (last_begun k s w o p f) q g b n y
 
-    pub name_not : b ≡ false → NameAt k s NoPart
+    pub name_not : b ≡ false → NameAt k s None
     name_not y = not_named k s (start_of k s) (open_start k s) p (last_begun k s w o p f) q g b n y
 
 -- ---- `last_dot`
 
-has_snoc : (w : List ℕ) → has_dot (w ++ (46 ∷ [])) ≡ true
+-- no byte of a list is a dot, from place i on
+abbrev NoDot : List ℕ → ℕ → Type 0
+NoDot w i = (k : ℕ) → i ≤ k → k < length w → get_or w k 0 ≡ 46 → ⊥
+
+has_none : (w : List ℕ) → NoDot w 0 → has_dot w ≡ false
 unfolding has_dot
-has_snoc [] = refl
-has_snoc (x ∷ w) = rw (has_snoc w) (split (eqb x 46) (λ e. rw e) (λ e. rw e))
+has_none [] h = refl
+has_none (x ∷ w) h = rw (ne_eqb x 46 (h 0 (omega arith) (omega arith)), has_none w (λ k l m. h (suc k) (omega arith) (omega arith)))
 
-dot_snoc : (w : List ℕ) → last_dot (w ++ (46 ∷ [])) ≡ length w
+no_last : (w : List ℕ) → NoDot w 0 → last_dot w ≡ 0
+unfolding last_dot
+no_last [] h = refl
+no_last (x ∷ w) h = rw (has_none w (λ k l m. h (suc k) (omega arith) (omega arith)))
+
+dot_last : (w : List ℕ) (i : ℕ) → i < length w → get_or w i 0 ≡ 46 → NoDot w (i + 1) → (last_dot w ≡ i) × (has_dot w ≡ true)
 unfolding last_dot has_dot
-dot_snoc [] = refl
-dot_snoc (x ∷ w) = rw (has_snoc w, dot_snoc w)
+dot_last [] i g y h = absurd (omega arith)
+dot_last (x ∷ w) zero g y h = (rw (has_none w (λ k l m. h (suc k) (omega arith) (omega arith))), rw (eq-eqb x 46 y))
+dot_last (x ∷ w) (suc i) g y h =
+    let r = dot_last w i (omega arith) y (λ k l m. h (suc k) (omega arith) (omega arith)) in
+    (rw (r.1, r.0), split (eqb x 46) (λ e. rw e) (λ e. rw (e, r.1)))
 
-module _ (y : ℕ) (n : y ≡ 46 → ⊥) where
-  has_plain : (w : List ℕ) → has_dot (w ++ (y ∷ [])) ≡ has_dot w
-  unfolding has_dot
-  has_plain [] = rw (ne_eqb y 46 n)
-  has_plain (x ∷ w) = rw (has_plain w)
+-- what is found in the bytes from lo to hi, read from the back
+module _ (s : List ℕ) (lo hi : ℕ) (l : lo ≤ hi) (c : hi ≤ length s) where
+  abbrev bytes : List ℕ
+  bytes = take (hi - lo) (drop lo s)
 
-  dot_plain : (w : List ℕ) → last_dot (w ++ (y ∷ [])) ≡ last_dot w
-  unfolding last_dot has_dot
-  dot_plain [] = refl
-  dot_plain (x ∷ w) = rw (has_plain w, dot_plain w)
+  pub dot_none : ((k : ℕ) → k < length bytes → get_or bytes k 0 ≡ 46 → ⊥) → DotAt s lo hi lo
+  unfolding dot_in
+  dot_none h = record { is = rw (no_last bytes (λ k z m. h k m)) (omega arith); low = omega arith; high = l; before = λ n. absurd (n refl) }
 
--- the bytes from lo to i, the last one apart
-part_snoc : (s : List ℕ) (lo i : ℕ) → lo < i → i ≤ length s → take (i - lo) (drop lo s) ≡ take (i - 1 - lo) (drop lo s) ++ (get_or s (i - 1) 0 ∷ [])
-part_snoc s lo i l h =
-    let a : i - lo ≡ suc (i - 1 - lo) = omega arith in
-    let b : lo + (i - 1 - lo) ≡ i - 1 = omega arith in
-    rw (a, take-suc (drop lo s) (i - 1 - lo) 0 (omega (arith, length-drop lo s)), get_or-drop lo s (i - 1 - lo) 0, b)
-
--- e says that no dot stands between i and hi
-module _ (s : List ℕ) (lo hi i : ℕ) (e : dot_in s lo hi ≡ dot_in s lo i) where
-  module _ (l : lo < i) (m : i ≤ hi) (c : hi ≤ length s) where
-    pub dot_here : get_or s (i - 1) 0 ≡ 46 → DotAt s lo hi (i - 1)
-    unfolding dot_in
-    dot_here y =
-        let n : length (take (i - 1 - lo) (drop lo s)) ≡ i - 1 - lo = length-take-le (i - 1 - lo) (drop lo s) (omega (arith, length-drop lo s)) in
-        record { is = rw (e, part_snoc s lo i l (omega arith), y, dot_snoc (take (i - 1 - lo) (drop lo s)), n) (omega arith); low = omega arith; high = omega arith; before = λ z. omega arith }
-
-    pub dot_more : (get_or s (i - 1) 0 ≡ 46 → ⊥) → dot_in s lo hi ≡ dot_in s lo (i - 1)
-    unfolding dot_in
-    dot_more n = e ∙ rw (part_snoc s lo i l (omega arith), dot_plain (get_or s (i - 1) 0) n (take (i - 1 - lo) (drop lo s)))
-
-  pub dot_out : i ≤ lo → lo ≤ hi → DotAt s lo hi lo
-  unfolding dot_in last_dot
-  dot_out h l =
-      let z : i - lo ≡ 0 = omega arith in
-      record { is = rw (e, z) (omega arith); low = omega arith; high = l; before = λ n. absurd (n refl) }
+  pub dot_found : (i : ℕ) → i < length bytes → get_or bytes i 0 ≡ 46 → ((k : ℕ) → i + 1 ≤ k → k < length bytes → get_or bytes k 0 ≡ 46 → ⊥) → DotAt s lo hi (lo + i)
+  unfolding dot_in
+  dot_found i g y h =
+      let n : length bytes ≡ hi - lo = length-take-le (hi - lo) (drop lo s) (omega (arith, length-drop lo s)) in
+      record { is = rw (dot_last bytes i g y h).0; low = omega arith; high = omega (arith, n); before = λ z. omega (arith, n) }
 
 -- ---- `stem_end`
 
@@ -575,12 +560,12 @@ module _ (s : List ℕ) (q : Part) (d : ℕ) (t : DotAt s q.start (q.start + q.l
 
 -- ---- the three views of a name
 
-pub name_absent : (f : List ℕ → Element → Outcome View) (k : Seps) (s : List ℕ) (p : Piece) (r : View) → NameAt k s p → p ≡ NoPart → r ≡ refused_view Absent → ViewAt (of_name f k s) s r
+pub name_absent : (f : List ℕ → Element → Outcome View) (k : Seps) (s : List ℕ) (p : Option Part) (r : View) → NameAt k s p → p ≡ None → r ≡ refused_view Absent → ViewAt (of_name f k s) s r
 unfolding of_name told
 name_absent f k s p r a g e = record { is = e ∙ rw (← a.is, g); inside = rw e (omega arith) }
 
-module _ (k : Seps) (s : List ℕ) (p : Piece) (a : NameAt k s p) (q : Part) (g : p ≡ Found q) where
-  the_name : last_name k s ≡ Here (lift q)
+module _ (k : Seps) (s : List ℕ) (p : Option Part) (a : NameAt k s p) (q : Part) (g : p ≡ Some q) where
+  the_name : last_name k s ≡ Some (lift q)
   the_name = sym a.is ∙ rw g
 
   of_name_lem : (f : List ℕ → Element → Outcome View) → of_name f k s ≡ f s (lift q)
@@ -619,6 +604,6 @@ module _ (k : Seps) (s : List ℕ) (p : Piece) (a : NameAt k s p) (q : Part) (g 
           let n : q.start + q.len - (d + 1) ≡ q.len - (last_dot (take q.len (drop q.start s)) + 1) = omega (arith, place s q d t) in
           record { is = rw (of_name_lem extension_seen, some s q d t z, n) (rw (place s q d t)); inside = omega (arith, name_ends, dot_before) }
 
-pub ruleset naming = (name_none, name_is, name_not, dot_here, dot_more, dot_out, name_absent, name_fits, name_ends, name_seen, stem_is, stem_whole, extension_none, dot_before, dot_fits, stem_dot, extension_dot, base_name, base_not, base_none)
+pub ruleset naming = (name_none, name_is, name_not, dot_none, dot_found, name_absent, name_fits, name_ends, name_seen, stem_is, stem_whole, extension_none, dot_before, dot_fits, stem_dot, extension_dot, base_name, base_not, base_none)
 
 pub ruleset climbing = (back_inside, head_fits, head_dot, head_plain, before_none, before_fits, before_part, up_fixed, up_lone, up_long, up_fits, up_part, up_left, left_none, left_some, parent_head, parent_part, ancestor_up, ancestor_whole)

@@ -1,5 +1,5 @@
 -- What the leaves promise to their callers beside the equation, and what their loops keep. Nothing here has to be believed.
-use Rattle.std.specs.Prelude.{ℕ, ◌+◌, ◌-◌, ◌<◌, ◌≤◌, ◌≡◌, List, ◌++◌, Bool, cond, length, take, drop, eqb}
+use Rattle.std.specs.Prelude.{ℕ, ◌+◌, ◌-◌, ◌<◌, ◌≤◌, ◌≡◌, List, ◌++◌, Bool, cond, length, take, drop, eqb, Option, Some, None}
 use Rattle.octets.specs.Class.{is_sep}
 use Rattle.octets.specs.declared.Seps.{Seps}
 use Rattle.answers.specs.declared.Reply.TheVariants.{Absent}
@@ -7,10 +7,7 @@ use Rattle.answers.specs.declared.View.{View}
 use Rattle.answers.specs.Reply.{refused_view, seen}
 use Rattle.answers.specs.Outcome.{Outcome, refuse, give, told, present}
 use Rattle.parts.specs.declared.Element.{Element}
-use Rattle.parts.specs.declared.Item.{Item}
-use Rattle.parts.specs.declared.Item.TheVariants.{Missing, Here}
 use Rattle.parts.specs.declared.Part.{Part}
-use Rattle.parts.specs.declared.Piece.{Piece}
 use Rattle.parts.specs.Body.{dots}
 use Rattle.parts.specs.Elements.{nth_back_of, end_or}
 use Rattle.parts.specs.Steps.{lift, raised, within, SpansBack}
@@ -49,14 +46,14 @@ head_up Implied n = refuse Absent
 head_up Lone n = cond (eqb n 1) (give (seen 0 0)) (refuse Absent)
 
 -- r is the file name, and lies in the path
-pub record NameAt (k : Seps) (s : List ℕ) (r : Piece) : Type 0 where
+pub record NameAt (k : Seps) (s : List ℕ) (r : Option Part) : Type 0 where
   pub is : raised r ≡ last_name k s
   pub spans : SpansBack s 0 (length s) r
 
 -- r bytes stand before the file name: those of the parent, or all where there is no name
-abbrev pub before_name : Item → ℕ → ℕ → ℕ
-before_name Missing parent all = all
-before_name (Here p) parent all = parent
+abbrev pub before_name : Option Element → ℕ → ℕ → ℕ
+before_name None parent all = all
+before_name (Some p) parent all = parent
 
 pub record BaseAt (k : Seps) (s : List ℕ) (r : ℕ) : Type 0 where
   pub is : r ≡ before_name (last_name k s) (rest_back k s 1).len (length s)

@@ -1,5 +1,5 @@
 -- Views over a path's list. Document 01, "Views over the list"; for the right end of what remains, "Rest".
-use Rattle.std.specs.Prelude.{ℕ, zero, suc, ◌+◌, ◌-◌, List, [], ◌∷◌, Bool, true, false, not, cond, length, take, drop, eqb}
+use Rattle.std.specs.Prelude.{ℕ, zero, suc, ◌+◌, ◌-◌, List, [], ◌∷◌, Bool, true, false, not, cond, length, take, drop, eqb, Option, Some, None}
 use Rattle.octets.specs.declared.Seps.{Seps}
 use Rattle.answers.specs.declared.Reply.TheVariants.{Absent}
 use Rattle.answers.specs.declared.View.{View}
@@ -8,8 +8,6 @@ use Rattle.answers.specs.Outcome.{Outcome, refuse, give, present}
 use Rattle.parts.specs.declared.Component.{Component}
 use Rattle.parts.specs.declared.Component.TheVariants.{Prefix, RootDir, CurDir, ParentDir, Normal}
 use Rattle.parts.specs.declared.Element.{Element}
-use Rattle.parts.specs.declared.Item.{Item}
-use Rattle.parts.specs.declared.Item.TheVariants.{Missing, Here}
 use Rattle.parts.specs.Elements.{nth_back_of}
 use Rattle.components.specs.List.{start_of, list_of}
 use Rattle.cursors.specs.Rest.{view_of, dotted, rest_of}
@@ -22,9 +20,9 @@ leaves_kind CurDir = true
 leaves_kind ParentDir = true
 leaves_kind Normal = true
 
-abbrev pub leaves : Item → Bool
-leaves Missing = false
-leaves (Here p) = leaves_kind p.component
+abbrev pub leaves : Option Element → Bool
+leaves None = false
+leaves (Some p) = leaves_kind p.component
 
 -- the last n components are all such, and there are as many
 unfoldable pub climbs : List Element → ℕ → Bool
@@ -54,11 +52,11 @@ is_normal CurDir = false
 is_normal ParentDir = false
 is_normal Normal = true
 
-abbrev pub if_normal : Item → Item
-if_normal Missing = Missing
-if_normal (Here p) = cond (is_normal p.component) (Here p) Missing
+abbrev pub if_normal : Option Element → Option Element
+if_normal None = None
+if_normal (Some p) = cond (is_normal p.component) (Some p) None
 
-unfoldable pub last_name : Seps → List ℕ → Item
+unfoldable pub last_name : Seps → List ℕ → Option Element
 last_name k s = if_normal (nth_back_of (list_of k s) 0)
 
 -- w has a dot
@@ -76,9 +74,9 @@ abbrev pub dot_of : List ℕ → Element → ℕ
 dot_of s p = last_dot (take p.len (drop p.start s))
 
 -- what f makes of the file name's element; Absent where there is none
-abbrev pub on_item : Item → (Element → Outcome View) → Outcome View
-on_item Missing f = refuse Absent
-on_item (Here p) f = f p
+abbrev pub on_item : Option Element → (Element → Outcome View) → Outcome View
+on_item None f = refuse Absent
+on_item (Some p) f = f p
 
 unfoldable pub of_name : (List ℕ → Element → Outcome View) → Seps → List ℕ → Outcome View
 of_name f k s = on_item (last_name k s) (f s)

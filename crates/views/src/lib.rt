@@ -1,6 +1,6 @@
 // Views over a path's list: parent, ancestors, file name, stem, extension. All work from the path's end and read only
 // what they need: the last part, and for an ancestor those that it lacks and one more.
-#![tactic(auto)]
+#![tactic(auto, using(crate::specs::Laws::climbing, crate::specs::Laws::naming))]
 
 ghost use Rattle.std.specs.Prelude.{◌≡◌, ◌+◌, ◌≤◌, length};
 ghost use Rattle.answers.specs.Outcome.{told};
@@ -14,18 +14,18 @@ ghost use Rattle.views.specs.Leaves.{up_by, ViewAt, CutAt, list_to, head_up, Nam
 use answers::{Reply, View};
 use components::{Dir, Start};
 use octets::Seps;
-use parts::{Back, Part, Piece};
+use parts::Part;
 
 // Where the head ends, with a dot that is no component behind a drive, as in `C:.`.
 fn head_end(k: Seps, h: Start, s: &[u8]) -> usize
     requires { OpenAt k s.now h }
     ensures { CutAt (dotted h s.now) (head_list h) s.now result }
 {
-    let at = h.at;
     if cursors::is_dotted(h, s) {
-        return at + 1;
+        h.at + 1
+    } else {
+        h.at
     }
-    at
 }
 
 // Where the last component before place e ends; 0 if there is none.
@@ -33,12 +33,9 @@ fn end_before(k: Seps, h: Start, s: &[u8], e: usize) -> usize
     requires { OpenAt k s.now h × (e ≤ length s.now) }
     ensures { CutAt (dotted h s.now) (list_to h s.now e) s.now result }
 {
-    let inner = h.seps;
-    let at = h.at;
-    let p = parts::last(inner, s, at, e);
-    match p {
-        Piece::Nothing => head_end(k, h, s),
-        Piece::Found(q) => q.start + q.len,
+    match parts::last(h.seps, s, h.at, e) {
+        None => head_end(k, h, s),
+        Some(q) => q.start + q.len,
     }
 }
 
@@ -46,20 +43,13 @@ fn end_before(k: Seps, h: Start, s: &[u8], e: usize) -> usize
 fn head_up(d: Dir, left: usize) -> View
     ensures { result ≡ told refused_view (head_up d left) }
 {
-    match d {
-        Dir::Bare => answers::refuse_view(Reply::Absent),
-        Dir::Root => answers::refuse_view(Reply::Absent),
-        Dir::Implied => answers::refuse_view(Reply::Absent),
-        Dir::Dot => {
-            if left == 1 {
-                return View {
-                    reply: Reply::Done,
-                    start: 0,
-                    len: 0,
-                };
-            }
-            answers::refuse_view(Reply::Absent)
-        }
+    match (d, left) {
+        (Dir::Dot, 1) => View {
+            reply: Reply::Done,
+            start: 0,
+            len: 0,
+        },
+        _ => View::from(Reply::Absent),
     }
 }
 
@@ -69,15 +59,13 @@ fn head_left(k: Seps, h: Start, s: &[u8], left: usize) -> View
     ensures { ViewAt (up_by (dotted h s.now) (head_list h) left) s.now result }
 {
     if left == 0 {
-        let len = head_end(k, h, s);
         return View {
             reply: Reply::Done,
             start: 0,
-            len,
+            len: head_end(k, h, s),
         };
     }
-    let d = h.dir;
-    head_up(d, left)
+    head_up(h.dir, left)
 }
 
 // What remains after n steps back: all up to the end of the part that has n behind it, or what the body leaves of the head.
@@ -85,16 +73,13 @@ fn up(k: Seps, s: &[u8], n: usize) -> View
     ensures { ViewAt (up_by (dotted (start_of k s.now) s.now) (list_of k s.now) n) s.now result }
 {
     let h = components::begin(k, s);
-    let inner = h.seps;
-    let at = h.at;
-    let c = parts::walk_back(inner, s, at, s.len(), n);
-    match c {
-        Back::At(q) => View {
+    match parts::walk_back(h.seps, s, h.at, s.len(), n) {
+        Ok(q) => View {
             reply: Reply::Done,
             start: 0,
             len: q.start + q.len,
         },
-        Back::Left(left) => head_left(k, h, s, left),
+        Err(left) => head_left(k, h, s, left),
     }
 }
 
@@ -102,22 +87,13 @@ pub fn parent(k: Seps, s: &[u8]) -> View
     ensures { ViewAt (parent_of k s.now) s.now result }
 {
     let h = components::begin(k, s);
-    let inner = h.seps;
-    let at = h.at;
-    let p = parts::last(inner, s, at, s.len());
-    match p {
-        Piece::Nothing => {
-            let d = h.dir;
-            head_up(d, 1)
-        }
-        Piece::Found(q) => {
-            let len = end_before(k, h, s, q.start);
-            View {
-                reply: Reply::Done,
-                start: 0,
-                len,
-            }
-        }
+    match parts::last(h.seps, s, h.at, s.len()) {
+        None => head_up(h.dir, 1),
+        Some(q) => View {
+            reply: Reply::Done,
+            start: 0,
+            len: end_before(k, h, s, q.start),
+        },
     }
 }
 
@@ -136,23 +112,11 @@ pub fn ancestor(k: Seps, s: &[u8], n: usize) -> View
 }
 
 // The last part, if it is a name. No head is one, so the body alone is asked.
-pub fn name_part(k: Seps, s: &[u8]) -> Piece
+pub fn name_part(k: Seps, s: &[u8]) -> Option<Part>
     ensures { NameAt k s.now result }
 {
     let w = components::body_in(k, s);
-    let inner = w.seps;
-    let at = w.at;
-    let p = parts::last(inner, s, at, s.len());
-    match p {
-        Piece::Nothing => Piece::Nothing,
-        Piece::Found(q) => {
-            let kind = q.kind;
-            if parts::is_name(kind) {
-                return Piece::Found(q);
-            }
-            Piece::Nothing
-        }
-    }
+    parts::last(w.seps, s, w.at, s.len()).filter(|q| parts::is_name(q.kind))
 }
 
 // How many bytes stand before the file name: those of the parent, or all where there is no name.
@@ -160,18 +124,9 @@ pub fn base_len(k: Seps, s: &[u8]) -> usize
     ensures { BaseAt k s.now result }
 {
     let h = components::begin(k, s);
-    let inner = h.seps;
-    let at = h.at;
-    let p = parts::last(inner, s, at, s.len());
-    match p {
-        Piece::Nothing => s.len(),
-        Piece::Found(q) => {
-            let kind = q.kind;
-            if parts::is_name(kind) {
-                return end_before(k, h, s, q.start);
-            }
-            s.len()
-        }
+    match parts::last(h.seps, s, h.at, s.len()) {
+        Some(q) if parts::is_name(q.kind) => end_before(k, h, s, q.start),
+        _ => s.len(),
     }
 }
 
@@ -180,24 +135,18 @@ fn last_dot(s: &[u8], lo: usize, hi: usize) -> usize
     requires { (lo ≤ hi) × (hi ≤ length s.now) }
     ensures { DotAt s.now lo hi result }
 {
-    let mut i = hi;
-    while lo < i {
-        let j = i - 1;
-        if s[j] == 46 {
-            return j;
-        }
-        i = j;
+    match s[lo..hi].iter().rposition(|&b| b == b'.') {
+        None => lo,
+        Some(i) => lo + i,
     }
-    lo
 }
 
 pub fn file_name(k: Seps, s: &[u8]) -> View
     ensures { ViewAt (file_name_of k s.now) s.now result }
 {
-    let p = name_part(k, s);
-    match p {
-        Piece::Nothing => answers::refuse_view(Reply::Absent),
-        Piece::Found(q) => View {
+    match name_part(k, s) {
+        None => View::from(Reply::Absent),
+        Some(q) => View {
             reply: Reply::Done,
             start: q.start,
             len: q.len,
@@ -210,47 +159,35 @@ pub fn stem_end(s: &[u8], q: Part) -> usize
     requires { q.start + q.len ≤ length s.now }
     ensures { StemAt s.now q result }
 {
-    let lo = q.start;
-    let hi = lo + q.len;
-    let d = last_dot(s, lo, hi);
-    if lo < d {
-        return d;
-    }
-    hi
+    let hi = q.start + q.len;
+    let d = last_dot(s, q.start, hi);
+    if q.start < d { d } else { hi }
 }
 
 pub fn file_stem(k: Seps, s: &[u8]) -> View
     ensures { ViewAt (file_stem_of k s.now) s.now result }
 {
-    let p = name_part(k, s);
-    match p {
-        Piece::Nothing => answers::refuse_view(Reply::Absent),
-        Piece::Found(q) => {
-            let start = q.start;
-            let e = stem_end(s, q);
-            View {
-                reply: Reply::Done,
-                start,
-                len: e - start,
-            }
-        }
+    match name_part(k, s) {
+        None => View::from(Reply::Absent),
+        Some(q) => View {
+            reply: Reply::Done,
+            start: q.start,
+            len: stem_end(s, q) - q.start,
+        },
     }
 }
 
-#[tactic(auto, using(crate::specs::Laws::naming))]
 pub fn extension(k: Seps, s: &[u8]) -> View
     ensures { ViewAt (extension_of k s.now) s.now result }
 {
-    let p = name_part(k, s);
-    match p {
-        Piece::Nothing => answers::refuse_view(Reply::Absent),
-        Piece::Found(q) => {
-            let lo = q.start;
-            let hi = lo + q.len;
-            let d = last_dot(s, lo, hi);
+    match name_part(k, s) {
+        None => View::from(Reply::Absent),
+        Some(q) => {
+            let hi = q.start + q.len;
+            let d = last_dot(s, q.start, hi);
             let b = d + 1;
-            if d == lo {
-                return answers::refuse_view(Reply::Absent);
+            if d == q.start {
+                return View::from(Reply::Absent);
             }
             View {
                 reply: Reply::Done,

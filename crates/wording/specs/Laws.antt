@@ -1,12 +1,12 @@
--- Laws of the lines: one a way through each function.
-use Rattle.std.specs.Prelude.{ℕ, zero, suc, ◌+◌, ◌-◌, ◌*◌, ◌/◌, ◌%◌, ◌<◌, ◌≤◌, ◌≡◌, refl, List, [], ◌∷◌, ◌++◌, length, take, set, get_or}
+-- Laws of the lines.
+use Rattle.std.specs.Prelude.{ℕ, zero, suc, ◌+◌, ◌-◌, ◌*◌, ◌<◌, ◌≤◌, ◌≡◌, refl, List, [], ◌∷◌, ◌++◌, length, take, drop, get_or, replicate}
 use native.Mathlib.Omega.{arith}
-use Rattle.std.proofs.Common.{add-one, sym, ap, ◌∙◌, append_assoc, append-nil, length-append, length-set, length-take-le, take-suc, take_all}
-use borrow.Author.Tests.{eq-eqb, ne_eqb, lt-ltb, le-ltb}
+use Rattle.std.proofs.Common.{add-one, sym, ap, ◌∙◌, append_assoc, append-nil, length-append, length-drop, length-take-le, drop-drop, take-suc, take_all}
+use Rattle.std.proofs.lemmas.List.{length-replicate}
+use borrow.Rule.Slice.PartMut.{mid_of, put_mid}
 use Rattle.answers.specs.Written.{over}
-use Rattle.buffers.specs.Laws.{over_take, over_set, over_over, take_over, length_over}
-use Rattle.wording.specs.Lines.{Put, Fronted, spaces, cell_of, column_of, glyph_of, hex_of, shown_of, escaped_of, columns_of, line_of, prefix_words, kind_words}
-use Rattle.prefixes.specs.declared.Prefix.{Prefix}
+use Rattle.buffers.specs.Laws.{over_take, over_over, take_over, length_over}
+use Rattle.wording.specs.Lines.{Put, spaces, column_of, shown_of, escaped_of, columns_of, line_of, kind_words}
 use Rattle.parts.specs.declared.Component.{Component}
 
 -- what is put, and then put behind it
@@ -31,90 +31,25 @@ put_more b one two x y n m r p q =
       long = q.long ∙ p.long;
     }
 
-pub put_byte : (b : List ℕ) (n v : ℕ) → n < length b → Put (v ∷ []) b n (n + 1) (set b n v)
-put_byte b n v h = record { is = refl; leaves = over_set b n v h; fits = omega arith; long = length-set b n v }
-
--- at the front
-pub front_put : (b one w : List ℕ) (r : ℕ) → Put w b 0 r one → Fronted w b r one
-front_put b one w r p = record { is = omega (arith, p.is); leaves = p.leaves; fits = omega (arith, p.fits); long = p.long }
-
-pub front_more : (b one two w y : List ℕ) (n r : ℕ) → Fronted w b n one → Put y one n r two → Fronted (w ++ y) b r two
-front_more b one two w y n r f p =
-    let t : take n one ≡ w = rw f.leaves (take_over w b n (sym f.is)) in
-    record {
-      is = omega (arith, f.is, p.is, length-append w y);
-      leaves = p.leaves ∙ rw (t, f.leaves, over_over w y b);
-      fits = omega (arith, f.is, f.long, p.fits, length-append w y);
-      long = p.long ∙ f.long;
-    }
-
 -- `pad`
-spaces_more : (k : ℕ) → spaces (suc k) ≡ spaces k ++ (32 ∷ [])
+put_mid_over : (b w : List ℕ) (n k : ℕ) → length w ≡ k → n + k ≤ length b → put_mid n k b w ≡ over (take n b ++ w) b
+unfolding over
+put_mid_over b w n k e h =
+    let d : length (take n b ++ w) ≡ n + k = rw length-append (omega (arith, length-take-le n b (omega arith))) in
+    rw d (rw (drop-drop, append_assoc) refl)
+
+spaces_are : (k : ℕ) → replicate k 32 ≡ spaces k
 unfolding spaces
-spaces_more zero = refl
-spaces_more (suc k) = ap (λ (l : List ℕ). 32 ∷ l) (spaces_more k)
+spaces_are zero = refl
+spaces_are (suc k) = ap (λ (l : List ℕ). 32 ∷ l) (spaces_are k)
 
-module _ (b : List ℕ) (n to : ℕ) where
-  pub pad_start : n ≤ to → to ≤ length b → Put (spaces (n - n)) b n n b
-  unfolding spaces
-  pad_start l h =
-      let z : n - n ≡ 0 = omega arith in
-      rw z (put_none b n (omega arith))
-
-  module _ (out : List ℕ) (at : ℕ) (p : Put (spaces (at - n)) b n at out) where
-    pub pad_more : n ≤ at → at < to → to ≤ length out → Put (spaces (at + 1 - n)) b n (at + 1) (set out at 32)
-    pad_more l h g =
-        let s : at + 1 - n ≡ suc (at - n) = omega arith in
-        rw (s, spaces_more (at - n)) (put_more b out (set out at 32) (spaces (at - n)) (32 ∷ []) n at (at + 1) p (put_byte out at 32 (omega arith)))
-
-    pub pad_done : at ≤ to → to ≤ at → Put (spaces (to - n)) b n at out
-    pad_done l h =
-        let e : to ≡ at = omega arith in
-        rw e p
-
--- `cell`, `glyph`
-pub cell_blank : (v : ℕ) → v ≡ 0 → 32 ≡ cell_of v
-unfolding cell_of
-cell_blank v h = simp (eq-eqb v 0 h)
-
-pub cell_digit : (v : ℕ) → (v ≡ 0 → ⊥) → 48 + v % 10 ≡ cell_of v
-unfolding cell_of
-cell_digit v h = simp (ne_eqb v 0 h)
-
-pub glyph_digit : (d : ℕ) → d < 10 → 48 + d ≡ glyph_of d
-unfolding glyph_of
-glyph_digit d h = simp (lt-ltb d 10 h)
-
-pub glyph_letter : (d : ℕ) → 10 ≤ d → 87 + d ≡ glyph_of d
-unfolding glyph_of
-glyph_letter d h = simp (le-ltb d 10 h)
-
--- `column`, `hex`
-pub column_put :
-    (b out : List ℕ) (n r v x y z : ℕ)
-    → x ≡ cell_of (v / 1000) → y ≡ cell_of (v / 100) → z ≡ cell_of (v / 10)
-    → Put (x ∷ y ∷ z ∷ (48 + v % 10) ∷ []) b n r out
-    → Put (column_of v) b n r out
-unfolding column_of
-column_put b out n r v x y z d e f p = rw (← d, ← e, ← f) p
-
-pub hex_put : (b out : List ℕ) (n r v x y : ℕ) → x ≡ glyph_of (v / 16) → y ≡ glyph_of (v % 16) → Put (92 ∷ 120 ∷ x ∷ y ∷ []) b n r out → Put (hex_of v) b n r out
-unfolding hex_of
-hex_put b out n r v x y d e p = rw (← d, ← e) p
-
--- `shown`
-module _ (b out : List ℕ) (n r v : ℕ) where
-  pub shown_low : v < 32 → Put (hex_of v) b n r out → Put (shown_of v) b n r out
-  unfolding shown_of
-  shown_low h p = rw (lt-ltb v 32 h) p
-
-  pub shown_high : 32 ≤ v → 127 ≤ v → Put (hex_of v) b n r out → Put (shown_of v) b n r out
-  unfolding shown_of
-  shown_high l h p = rw (le-ltb v 32 l, le-ltb v 127 h) p
-
-pub shown_plain : (b : List ℕ) (n v : ℕ) → 32 ≤ v → v < 127 → n + 4 ≤ length b → Put (shown_of v) b n (n + 1) (set b n v)
-unfolding shown_of
-shown_plain b n v l h c = rw (le-ltb v 32 l, lt-ltb v 127 h) (put_byte b n v (omega arith))
+-- the part of the buffer from n to `to` was lent, and came back as spaces
+pub pad_put : (b part : List ℕ) (n to : ℕ) → part ≡ replicate (length (mid_of n (to - n) b)) 32 → n ≤ to → to ≤ length b → Put (spaces (to - n)) b n to (put_mid n (to - n) b part)
+pad_put b part n to e h k =
+    let m : length (mid_of n (to - n) b) ≡ to - n = length-take-le (to - n) (drop n b) (simp length-drop (omega arith)) in
+    let p : part ≡ spaces (to - n) = e ∙ rw m (spaces_are (to - n)) in
+    let l : length part ≡ to - n = rw e (rw length-replicate m) in
+    rw (← p) (put_at b (put_mid n (to - n) b part) part n to (omega arith) (put_mid_over b part n (to - n) l (omega arith)) (omega arith))
 
 -- `escaped`
 escaped_both : (s t : List ℕ) → escaped_of (s ++ t) ≡ escaped_of s ++ escaped_of t
@@ -142,61 +77,35 @@ module _ (b s : List ℕ) (n : ℕ) where
   pub escaped_done : (out : List ℕ) (at i : ℕ) → Put (escaped_of (take i s)) b n at out → length s ≤ i → Put (escaped_of s) b n at out
   escaped_done out at i p l = rw (take_all i s l) at p
 
--- `drive`
-pub drive_front : (b out text : List ℕ) (n v : ℕ) → Put text b 0 n out → length text < 26 → 26 ≤ length b → Fronted (text ++ (v ∷ [])) b (n + 1) (set out n v)
-drive_front b out text n v p h l =
-    front_more b out (set out n v) text (v ∷ []) n (n + 1) (front_put b out text n p) (put_byte out n v (omega (arith, p.is, p.long)))
-
--- `prefix`, `kind`: what the match found
-module _ (p v : Prefix) (e : p ≡ v) (b out : List ℕ) (r : ℕ) where
-  pub prefix_put : Put (prefix_words v) b 0 r out → Fronted (prefix_words p) b r out
-  prefix_put w = rw e (front_put b out (prefix_words v) r w)
-
-  pub prefix_front : Fronted (prefix_words v) b r out → Fronted (prefix_words p) b r out
-  prefix_front w = rw e w
-
-module _ (c d : Component) (e : c ≡ d) (b out : List ℕ) (r : ℕ) where
-  pub kind_put : Put (kind_words d) b 0 r out → Fronted (kind_words c) b r out
-  kind_put w = rw e (front_put b out (kind_words d) r w)
-
-  pub kind_front : Fronted (kind_words d) b r out → Fronted (kind_words c) b r out
-  kind_front w = rw e w
-
--- `columns`, `line`
-pub columns_front :
-    (b o₁ o₂ o₃ o₄ o₅ o₆ : List ℕ) (c : Component) (start len n₁ n₂ n₃ n₄ n₅ n₆ : ℕ)
-    → Fronted (kind_words c) b n₁ o₁
+-- `columns`, `component`
+pub columns_put :
+    (b o₁ o₂ o₃ o₄ o₅ o₆ : List ℕ) (c : Component) (start len n n₁ n₂ n₃ n₄ n₅ n₆ : ℕ)
+    → n ≡ 0
+    → Put (kind_words c) b n n₁ o₁
     → Put (spaces (26 - n₁)) o₁ n₁ n₂ o₂
     → Put (column_of start) o₂ n₂ n₃ o₃
     → Put (32 ∷ 32 ∷ 32 ∷ 32 ∷ []) o₃ n₃ n₄ o₄
     → Put (column_of len) o₄ n₄ n₅ o₅
     → Put (32 ∷ 32 ∷ []) o₅ n₅ n₆ o₆
-    → Fronted (columns_of c start len) b n₆ o₆
+    → Put (columns_of c start len) b n n₆ o₆
 unfolding columns_of
-columns_front b o₁ o₂ o₃ o₄ o₅ o₆ c start len n₁ n₂ n₃ n₄ n₅ n₆ k p q r s t =
-    front_more b o₅ o₆ _ _ n₅ n₆
-    (front_more b o₄ o₅ _ _ n₄ n₅
-    (front_more b o₃ o₄ _ _ n₃ n₄
-    (front_more b o₂ o₃ _ _ n₂ n₃
-    (front_more b o₁ o₂ _ (spaces (26 - length (kind_words c))) n₁ n₂ k (rw (← k.is) p)) q) r) s) t
+columns_put b o₁ o₂ o₃ o₄ o₅ o₆ c start len n n₁ n₂ n₃ n₄ n₅ n₆ z k p q r s t =
+    let e : length (kind_words c) ≡ n₁ = omega (arith, k.is) in
+    put_more b o₅ o₆ _ _ n n₅ n₆
+    (put_more b o₄ o₅ _ _ n n₄ n₅
+    (put_more b o₃ o₄ _ _ n n₃ n₄
+    (put_more b o₂ o₃ _ _ n n₂ n₃
+    (put_more b o₁ o₂ _ (spaces (26 - length (kind_words c))) n n₁ n₂ k (rw e p)) q) r) s) t
 
-pub line_front :
-    (b one two three text : List ℕ) (c : Component) (start n m r : ℕ)
-    → Fronted (columns_of c start (length text)) b n one
+pub line_put :
+    (b one two three text : List ℕ) (c : Component) (start o n m r : ℕ)
+    → Put (columns_of c start (length text)) b o n one
     → Put (escaped_of text) one n m two
     → Put (10 ∷ []) two m r three
-    → Fronted (line_of c start text) b r three
+    → Put (line_of c start text) b o r three
 unfolding line_of
-line_front b one two three text c start n m r f p q = front_more b two three _ _ m r (front_more b one two _ _ n m f p) q
+line_put b one two three text c start o n m r f p q = put_more b two three _ _ o m r (put_more b one two _ _ o n m f p) q
 
-pub ruleset cells = (cell_blank, cell_digit, glyph_digit, glyph_letter)
-
-pub ruleset puts = (column_put, hex_put, shown_low, shown_high, shown_plain, drive_front)
-
-pub ruleset pads = (pad_start, pad_more, pad_done)
+pub ruleset puts = (put_more, pad_put, columns_put, line_put)
 
 pub ruleset escapes = (escaped_start, escaped_more, escaped_done)
-
-pub ruleset kinds = (prefix_put, prefix_front, kind_put, kind_front)
-
-pub ruleset lines = (columns_front, line_front)

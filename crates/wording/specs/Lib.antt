@@ -1,4 +1,5 @@
 pub mod Commands
 pub mod Lines
+pub mod Rows
 pub mod Laws
 pub mod Examples

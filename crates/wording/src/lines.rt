@@ -1,156 +1,160 @@
 // A component as a line: its kind in words, its start and its length in columns, and its bytes.
 ghost use Rattle.std.specs.Prelude.{◌≡◌, ◌+◌, ◌-◌, ◌*◌, ◌≤◌, ◌<◌, [], ◌∷◌, ◌++◌, length};
-ghost use Rattle.wording.specs.Lines.{Put, Fronted, spaces, cell_of, column_of, glyph_of, hex_of, shown_of, escaped_of, prefix_words, kind_words, columns_of, line_of};
+ghost use Rattle.wording.specs.Lines.{Fronted, spaces, cell_of, column_of, glyph_of, hex_of, shown_of, escaped_of, prefix_words, kind_words, columns_of, line_of};
+ghost use Rattle.wording.specs.Rows.{Added};
 
 use parts::Component;
 use prefixes::Prefix;
 
-fn put(out: &mut [u8], n: usize, text: &[u8]) -> usize
-    requires { n + length text.now ≤ length out.old }
-    ensures { Put text.now out.old n result out.new }
-{
-    buffers::push(out, n, text)
-}
-
-// Spaces from place n up to place `to`.
-fn pad(out: &mut [u8], n: usize, to: usize) -> usize
-    requires { (n ≤ to) × (to ≤ length out.old) }
-    ensures value { result ≡ to }
-    ensures put { Put (spaces (to - n)) out.old n result out.new }
-{
-    let mut at = n;
-    while at < to {
-        out[at] = b' ';
-        at += 1;
-    }
-    at
-}
-
 // The digit that v ends in, or a space where v is 0: a number's digit ahead of its last.
+#[tactic(auto, unfolding(crate::specs::Lines::cell_of))]
 fn cell(v: usize) -> u8
     ensures { result ≡ cell_of v }
 {
-    if v == 0 {
-        return b' ';
-    }
-    48 + (v % 10) as u8
-}
-
-// The last four digits of v, spaces in the place of leading zeros. No place of a path has more.
-fn column(out: &mut [u8], n: usize, v: usize) -> usize
-    requires { n + 4 ≤ length out.old }
-    ensures value { result ≡ n + 4 }
-    ensures put { Put (column_of v) out.old n result out.new }
-{
-    let last = 48 + (v % 10) as u8;
-    let four = [cell(v / 1000), cell(v / 100), cell(v / 10), last];
-    put(out, n, &four)
+    if v == 0 { b' ' } else { b'0' + (v % 10) as u8 }
 }
 
 // A hex digit, 0 to 15.
+#[tactic(auto, unfolding(crate::specs::Lines::glyph_of))]
 fn glyph(d: u8) -> u8
     requires { d < 16 }
     ensures { result ≡ glyph_of d }
 {
-    if d < 10 {
-        return 48 + d;
+    if d < 10 { b'0' + d } else { b'a' - 10 + d }
+}
+
+// A line while it is written: the lent buffer, and the place behind what stands in it.
+#[derive(Drop)]
+struct Row<'a> {
+    out: &'a mut [u8],
+    n: usize,
+}
+
+impl Row<'_> {
+    fn put(&mut self, text: &[u8])
+        requires { self.old.n + length text.now ≤ length self.old.out.now }
+        ensures { Added text.now self.old self.new }
+    {
+        self.n = buffers::push(self.out, self.n, text);
     }
-    87 + d
-}
 
-// A byte as \xNN.
-fn hex(out: &mut [u8], n: usize, b: u8) -> usize
-    requires { n + 4 ≤ length out.old }
-    ensures value { result ≡ n + 4 }
-    ensures put { Put (hex_of b) out.old n result out.new }
-{
-    let four = [b'\\', b'x', glyph(b / 16), glyph(b % 16)];
-    put(out, n, &four)
-}
-
-// One byte of a path: as it is if it is printable ASCII, else as \xNN.
-fn shown(out: &mut [u8], n: usize, b: u8) -> usize
-    requires { n + 4 ≤ length out.old }
-    ensures upper_bound { result ≤ n + 4 }
-    ensures put { Put (shown_of b) out.old n result out.new }
-{
-    if b < 32 {
-        return hex(out, n, b);
+    // Spaces up to place `to`.
+    fn pad(&mut self, to: usize)
+        requires { (self.old.n ≤ to) × (to ≤ length self.old.out.now) }
+        ensures value { self.new.n ≡ to }
+        ensures put { Added (spaces (to - self.old.n)) self.old self.new }
+    {
+        self.out[self.n..to].fill(b' ');
+        self.n = to;
     }
-    if b < 127 {
-        out[n] = b;
-        return n + 1;
+
+    // The last four digits of v, spaces in the place of leading zeros. No place of a path has more.
+    #[tactic(auto, unfolding(crate::specs::Lines::column_of))]
+    fn column(&mut self, v: usize)
+        requires { self.old.n + 4 ≤ length self.old.out.now }
+        ensures value { self.new.n ≡ self.old.n + 4 }
+        ensures put { Added (column_of v) self.old self.new }
+    {
+        let last = b'0' + (v % 10) as u8;
+        self.put(&[cell(v / 1000), cell(v / 100), cell(v / 10), last]);
     }
-    hex(out, n, b)
-}
 
-fn escaped(out: &mut [u8], n: usize, s: &[u8]) -> usize
-    requires { n + 4 * length s.now ≤ length out.old }
-    ensures upper_bound { result ≤ n + 4 * length s.now }
-    ensures put { Put (escaped_of s.now) out.old n result out.new }
-{
-    let mut at = n;
-    let mut i = 0;
-    while i < s.len() {
-        at = shown(out, at, s[i]);
-        i += 1;
+    // A byte as \xNN.
+    #[tactic(auto, unfolding(crate::specs::Lines::hex_of))]
+    fn hex(&mut self, b: u8)
+        requires { self.old.n + 4 ≤ length self.old.out.now }
+        ensures value { self.new.n ≡ self.old.n + 4 }
+        ensures put { Added (hex_of b) self.old self.new }
+    {
+        self.put(&[b'\\', b'x', glyph(b / 16), glyph(b % 16)]);
     }
-    at
-}
 
-// Text and a drive's letter, at the front of the line.
-fn drive(out: &mut [u8], text: &[u8], letter: u8) -> usize
-    requires { (length text.now < 26) × (26 ≤ length out.old) }
-    ensures upper_bound { result ≤ 26 }
-    ensures fronted { Fronted (text.now ++ (letter ∷ [])) out.old result out.new }
-{
-    let n = put(out, 0, text);
-    out[n] = letter;
-    n + 1
-}
-
-// Which prefix it is, at the front of the line.
-fn prefix(out: &mut [u8], p: Prefix) -> usize
-    requires { 26 ≤ length out.old }
-    ensures upper_bound { result ≤ 26 }
-    ensures fronted { Fronted (prefix_words p) out.old result out.new }
-{
-    match p {
-        Prefix::Verbatim(_) => put(out, 0, b"prefix, verbatim"),
-        Prefix::VerbatimUnc(_) => put(out, 0, b"prefix, verbatim UNC"),
-        Prefix::VerbatimDisk(d) => drive(out, b"prefix, verbatim disk ", d),
-        Prefix::DeviceNs(_) => put(out, 0, b"prefix, device"),
-        Prefix::Unc(_) => put(out, 0, b"prefix, UNC"),
-        Prefix::Disk(d) => drive(out, b"prefix, disk ", d),
+    // One byte of a path: as it is if it is printable ASCII, else as \xNN.
+    #[tactic(auto, unfolding(crate::specs::Lines::shown_of))]
+    fn shown(&mut self, b: u8)
+        requires { self.old.n + 4 ≤ length self.old.out.now }
+        ensures upper_bound { self.new.n ≤ self.old.n + 4 }
+        ensures put { Added (shown_of b) self.old self.new }
+    {
+        match b {
+            b' '..=b'~' => self.put(&[b]),
+            _ => self.hex(b),
+        }
     }
-}
 
-fn kind(out: &mut [u8], c: Component) -> usize
-    requires { 26 ≤ length out.old }
-    ensures upper_bound { result ≤ 26 }
-    ensures fronted { Fronted (kind_words c) out.old result out.new }
-{
-    match c {
-        Component::Prefix(p) => prefix(out, p),
-        Component::RootDir => put(out, 0, b"root"),
-        Component::CurDir => put(out, 0, b"current directory"),
-        Component::ParentDir => put(out, 0, b"parent directory"),
-        Component::Normal => put(out, 0, b"name"),
+    fn escaped(&mut self, s: &[u8])
+        requires { self.old.n + 4 * length s.now ≤ length self.old.out.now }
+        ensures upper_bound { self.new.n ≤ self.old.n + 4 * length s.now }
+        ensures put { Added (escaped_of s.now) self.old self.new }
+    {
+        for b in s {
+            self.shown(*b);
+        }
     }
-}
 
-// All but the bytes: 40 bytes.
-fn columns(out: &mut [u8], c: Component, start: usize, len: usize) -> usize
-    requires { 40 ≤ length out.old }
-    ensures value { result ≡ 40 }
-    ensures fronted { Fronted (columns_of c start len) out.old result out.new }
-{
-    let n = kind(out, c);
-    let a = pad(out, n, 26);
-    let b = column(out, a, start);
-    let d = put(out, b, b"    ");
-    let e = column(out, d, len);
-    put(out, e, b"  ")
+    // Text and a drive's letter.
+    fn drive(&mut self, text: &[u8], letter: u8)
+        requires { self.old.n + length text.now < length self.old.out.now }
+        ensures { Added (text.now ++ (letter ∷ [])) self.old self.new }
+    {
+        self.put(text);
+        self.put(&[letter]);
+    }
+
+    // Which prefix it is.
+    fn prefix(&mut self, p: Prefix)
+        requires { self.old.n + 26 ≤ length self.old.out.now }
+        ensures upper_bound { self.new.n ≤ self.old.n + 26 }
+        ensures put { Added (prefix_words p) self.old self.new }
+    {
+        match p {
+            Prefix::Verbatim(_) => self.put(b"prefix, verbatim"),
+            Prefix::VerbatimUnc(_) => self.put(b"prefix, verbatim UNC"),
+            Prefix::VerbatimDisk(d) => self.drive(b"prefix, verbatim disk ", d),
+            Prefix::DeviceNs(_) => self.put(b"prefix, device"),
+            Prefix::Unc(_) => self.put(b"prefix, UNC"),
+            Prefix::Disk(d) => self.drive(b"prefix, disk ", d),
+        }
+    }
+
+    fn kind(&mut self, c: Component)
+        requires { self.old.n + 26 ≤ length self.old.out.now }
+        ensures upper_bound { self.new.n ≤ self.old.n + 26 }
+        ensures put { Added (kind_words c) self.old self.new }
+    {
+        match c {
+            Component::Prefix(p) => self.prefix(p),
+            Component::RootDir => self.put(b"root"),
+            Component::CurDir => self.put(b"current directory"),
+            Component::ParentDir => self.put(b"parent directory"),
+            Component::Normal => self.put(b"name"),
+        }
+    }
+
+    // All but the bytes, at the front of the line: 40 bytes.
+    fn columns(&mut self, c: Component, start: usize, len: usize)
+        requires { (self.old.n ≡ 0) × (40 ≤ length self.old.out.now) }
+        ensures value { self.new.n ≡ 40 }
+        ensures put { Added (columns_of c start len) self.old self.new }
+    {
+        self.kind(c);
+        self.pad(26);
+        self.column(start);
+        self.put(b"    ");
+        self.column(len);
+        self.put(b"  ");
+    }
+
+    // A component that stands at `start`, with the byte 10. The bytes are text.
+    fn component(&mut self, c: Component, start: usize, text: &[u8])
+        requires { (self.old.n ≡ 0) × (41 + 4 * length text.now ≤ length self.old.out.now) }
+        ensures upper_bound { self.new.n ≤ length self.old.out.now }
+        ensures put { Added (line_of c start text.now) self.old self.new }
+    {
+        self.columns(c, start, text.len());
+        self.escaped(text);
+        self.put(b"\n");
+    }
 }
 
 // The line of a component that stands at `start`, with its byte 10; how long it is. The bytes are text.
@@ -159,7 +163,7 @@ pub fn line(out: &mut [u8], c: Component, start: usize, text: &[u8]) -> usize
     ensures upper_bound { result ≤ length out.old }
     ensures fronted { Fronted (line_of c start text.now) out.old result out.new }
 {
-    let n = columns(out, c, start, text.len());
-    let m = escaped(out, n, text);
-    put(out, m, b"\n")
+    let mut row = Row { out, n: 0 };
+    row.component(c, start, text);
+    row.n
 }

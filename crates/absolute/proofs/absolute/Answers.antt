@@ -1,9 +1,9 @@
-use Rattle.std.proofs.Common.{rules}
 use Rattle.absolute.specs.Laws.{replies}
+use Rattle.std.proofs.Common.{rules}
 use Rattle.absolute.proofs.absolute.Goals as goal
 
-pub returns-then-s-eq0 : goal.returns-then-s-eq0
-returns-then-s-eq0 c = search (rules, replies)
+pub returns-then-is_empty : goal.returns-then-is_empty
+returns-then-is_empty c = search (rules, replies)
 
 pub returns-then-two_slashes : goal.returns-then-two_slashes
 returns-then-two_slashes c = search (rules, replies)

@@ -1,12 +1,9 @@
-use Rattle.std.proofs.Common.{rules}
 use Rattle.joins.specs.Laws.{joins}
+use Rattle.std.proofs.Common.{rules}
 use Rattle.joins.proofs.join_any.Goals as goal
 
 pub returns-then-replaces : goal.returns-then-replaces
 returns-then-replaces c = search (rules, joins)
-
-pub join-requires-clause-p_value : goal.join-requires-clause-p_value
-join-requires-clause-p_value c = search (rules, joins)
 
 pub returns-then-mends : goal.returns-then-mends
 returns-then-mends c = search (rules, joins)

@@ -1,5 +1,5 @@
-use Rattle.std.proofs.Common.{rules}
 use Rattle.joins.specs.Laws.{joins}
+use Rattle.std.proofs.Common.{rules}
 use Rattle.joins.proofs.join_unix.Goals as goal
 
 pub returns : goal.returns

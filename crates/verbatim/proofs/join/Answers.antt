@@ -1,5 +1,5 @@
-use Rattle.std.proofs.Common.{rules}
 use Rattle.verbatim.specs.Writing.{joins}
+use Rattle.std.proofs.Common.{rules}
 use Rattle.verbatim.proofs.join.Goals as goal
 
 pub returns-then-out-n : goal.returns-then-out-n

@@ -1,5 +1,5 @@
-use Rattle.std.proofs.Common.{rules}
 use Rattle.verbatim.specs.Writing.{writes}
+use Rattle.std.proofs.Common.{rules}
 use Rattle.verbatim.proofs.put_part.Goals as goal
 
 pub returns-clause-out_after : goal.returns-clause-out_after

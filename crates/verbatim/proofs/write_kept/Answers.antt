@@ -1,16 +1,10 @@
-use Rattle.std.proofs.Common.{rules}
-use Rattle.verbatim.specs.Laws.{reads}
 use Rattle.verbatim.specs.Writing.{writes}
+use Rattle.verbatim.specs.Laws.{reads}
+use Rattle.std.proofs.Common.{rules}
 use Rattle.verbatim.proofs.write_kept.Goals as goal
 
 pub loop-x-init : goal.loop-x-init
 loop-x-init c = search (rules, reads, writes)
-
-pub returns-in-Nothing-clause-n_value : goal.returns-in-Nothing-clause-n_value
-returns-in-Nothing-clause-n_value c = search (rules, reads, writes)
-
-pub returns-in-Nothing-clause-out_after : goal.returns-in-Nothing-clause-out_after
-returns-in-Nothing-clause-out_after c = search (rules, reads, writes)
 
 pub put_part-j-requires-clause-len_bound : goal.put_part-j-requires-clause-len_bound
 put_part-j-requires-clause-len_bound c = search (rules, reads, writes)

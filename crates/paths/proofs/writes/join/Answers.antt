@@ -1,15 +1,9 @@
-use Rattle.std.proofs.Common.{rules}
 use Rattle.paths.specs.WriteLaws.{writes}
+use Rattle.std.proofs.Common.{rules}
 use Rattle.paths.proofs.writes.join.Goals as goal
 
-pub returns-then-mode-gt1 : goal.returns-then-mode-gt1
-returns-then-mode-gt1 c = search (rules, writes)
+pub returns-in-Ok : goal.returns-in-Ok
+returns-in-Ok c = search (rules, writes)
 
-pub returns-then-p-gt-LIMIT : goal.returns-then-p-gt-LIMIT
-returns-then-p-gt-LIMIT c = search (rules, writes)
-
-pub returns-then-q-gt-LIMIT : goal.returns-then-q-gt-LIMIT
-returns-then-q-gt-LIMIT c = search (rules, writes)
-
-pub returns : goal.returns
-returns c = search (rules, writes)
+pub returns-in-Err : goal.returns-in-Err
+returns-in-Err c = search (rules, writes)

@@ -1,6 +1,0 @@
-use Rattle.std.proofs.Common.{rules}
-use Rattle.components.specs.Laws.{lists}
-use Rattle.components.proofs.head_count.Goals as goal
-
-pub returns : goal.returns
-returns c = search (rules, lists)

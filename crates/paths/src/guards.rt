@@ -1,0 +1,32 @@
+// The guards in front of every public call: a mode that is one, and inputs that are not too long. Each stands here once.
+#![tactic(auto, using(crate::specs::GuardLaws::guards_asked))]
+
+ghost use Rattle.std.specs.Prelude.{◌≡◌};
+ghost use Rattle.paths.specs.Guards.{accepted_one, accepted_both};
+
+use answers::Reply;
+use octets::Seps;
+
+// What separates in a call of one path, or why it is refused.
+pub fn accept(mode: usize, path: &[u8]) -> Result<Seps, Reply>
+    ensures { result ≡ accepted_one mode path.now }
+{
+    if mode > 1 {
+        return Err(Reply::Mode);
+    }
+    if path.len() > octets::LIMIT {
+        return Err(Reply::Length);
+    }
+    Ok(octets::seps_of(mode))
+}
+
+// The same of a call of two inputs.
+pub fn accept_both(mode: usize, p: &[u8], q: &[u8]) -> Result<Seps, Reply>
+    ensures { result ≡ accepted_both mode p.now q.now }
+{
+    let k = accept(mode, p)?;
+    if q.len() > octets::LIMIT {
+        return Err(Reply::Length);
+    }
+    Ok(k)
+}

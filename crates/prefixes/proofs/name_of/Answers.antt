@@ -1,6 +1,0 @@
-use Rattle.std.proofs.Common.{rules}
-use Rattle.prefixes.specs.Laws.{prefixes}
-use Rattle.prefixes.proofs.name_of.Goals as goal
-
-pub returns : goal.returns
-returns c = search (rules, prefixes)
