@@ -1,8 +1,7 @@
 -- Laws of `absolute`: what the two walks count and write is what the definition says, and one law a way through each function.
-use Rattle.std.specs.Prelude.{ℕ, zero, suc, ◌+◌, ◌-◌, ◌*◌, ◌^◌, ◌<◌, ◌≤◌, ◌≡◌, refl, List, [], ◌∷◌, ◌++◌, Bool, true, false, not, nat_eq, cond, get_or, take, drop, ltb, leb, Option, Some, None}
+use Rattle.std.specs.Prelude.{ℕ, zero, suc, ◌+◌, ◌-◌, ◌<◌, ◌≤◌, ◌≡◌, refl, List, [], ◌∷◌, ◌++◌, Bool, true, false, not, nat_eq, cond, get_or, take, drop, ltb, leb, Option, Some, None}
 use borrow.Author.Tests.{eqb-true, eqb-false}
-use Rattle.std.specs.Int.{w64}
-use Rattle.std.proofs.Common.{Fits, arith, sym, ap, ◌∙◌, append-nil, append_assoc, get_or-take, get_or-drop, eq-eqb, ne_eqb, lt-ltb, ltb-true, ltb-false, leb-true, leb-false}
+use Rattle.std.proofs.Common.{arith, sym, ap, ◌∙◌, append-nil, append_assoc, get_or-take, get_or-drop, eq-eqb, ne_eqb, lt-ltb, ltb-true, ltb-false, leb-true, leb-false}
 use Rattle.std.proofs.Math.Nat.{add-sub_cancel_left, add-sub_of_le}
 use Rattle.std.proofs.Math.Bool.{true, false}
 use Rattle.std.proofs.lemmas.Bool.{false≢true}
@@ -24,8 +23,8 @@ use Rattle.parts.specs.declared.Component.TheVariants.{Prefix, RootDir, CurDir, 
 use Rattle.parts.specs.declared.Element.{Element}
 use Rattle.parts.specs.declared.Part.{Part}
 use Rattle.parts.specs.Body.{sort_at, from}
-use Rattle.parts.specs.Steps.{FirstAt}
-use Rattle.parts.specs.Laws.{from_is, from_skip, from_end, first_none, first_found, Bodily, Good, Goods, from_good}
+use Rattle.parts.specs.Steps.{lift}
+use Rattle.parts.specs.Laws.{from_is, from_skip, from_end, Bodily, Good, Goods, from_good}
 use Rattle.components.specs.declared.Dir.{Dir}
 use Rattle.components.specs.declared.Dir.TheVariants.{Bare as NoDir, Root, Implied, Dot}
 use Rattle.components.specs.declared.Start.{Start}
@@ -146,54 +145,44 @@ finished_is s t h o =
     rw (whole s, dir_left s t (from (is_sep Unix) false s (start_of Unix s).at) (dir_of Unix None s 0))
     (tail_law s (from (is_sep Unix) false s (start_of Unix s).at) t (from_good (is_sep Unix) false s (start_of Unix s).at) ∙ rw o.is)
 
--- ---- the walks: what is to come of s from place i on, by what `first` finds there
+-- ---- the walks: what is to come of s, by what is left of its parts, l
 
-gap_few : (o : Bool) → length (sep_if o) ≤ 1
+pub gap_few : (o : Bool) → length (sep_if o) ≤ 1
 gap_few true = omega arith
 gap_few false = omega arith
 
-module _ (s : List ℕ) (i : ℕ) (r : Option Part) (f : FirstAt (is_sep Unix) false s i r) (o : Bool) where
-  module _ (g : r ≡ None) (y : Bool) (e : y ≡ ends s) where
-    tail_open : y ≡ true → tail_from s o i ≡ sep_if o
-    unfolding tail_from tail_of
-    tail_open k = rw (first_none f g, ← e, k)
+module _ (s : List ℕ) (o : Bool) (l : List Element) where
+  module _ (g : l ≡ []) (y : Bool) (e : y ≡ ends s) where
+    tail_open : y ≡ true → tail_of s o l ≡ sep_if o
+    unfolding tail_of
+    tail_open k = rw (g, ← e, k)
 
-    tail_shut : y ≡ false → tail_from s o i ≡ []
-    unfolding tail_from tail_of
-    tail_shut k = rw (first_none f g, ← e, k)
+    tail_shut : y ≡ false → tail_of s o l ≡ []
+    unfolding tail_of
+    tail_shut k = rw (g, ← e, k)
 
-  tail_on : (x : Part) → r ≡ Some x → tail_from s o i ≡ sep_if o ++ (take x.len (drop x.start s) ++ tail_from s true (x.start + x.len + 1))
-  unfolding tail_from tail_of
-  tail_on x g = rw (first_found f g).is
+  tail_on : (x : Part) (m : List Element) → l ≡ lift x ∷ m → tail_of s o l ≡ sep_if o ++ (take x.len (drop x.start s) ++ tail_of s true m)
+  unfolding tail_of
+  tail_on x m g = rw g
 
   -- `tail_len`: e says what the loop has kept
-  module _ (n at : ℕ) (b : Bool) (e : n + length (tail_from s o i) ≡ length (tail_from s b at)) where
-    module _ (g : r ≡ None) (y : Bool) (h : y ≡ ends s) (c : n ≤ length s + 1) where
+  module _ (n at : ℕ) (b : Bool) (e : n + length (tail_of s o l) ≡ length (tail_from s b at)) where
+    module _ (g : l ≡ []) (y : Bool) (h : y ≡ ends s) (c : n ≤ length s + 1) where
       pub len_open : (z : ℕ) → y ≡ true → z ≡ length (sep_if o) → TailLen s b at (n + z)
-      len_open z k l = record { is = omega (arith, ap length (tail_open g y h k)); small = omega (arith, gap_few o) }
+      len_open z k w = record { is = omega (arith, ap length (tail_open g y h k)); small = omega (arith, gap_few o) }
 
       pub len_shut : y ≡ false → TailLen s b at n
       len_shut k = record { is = omega (arith, ap length (tail_shut g y h k)); small = omega arith }
 
-    pub len_on : (x : Part) (z : ℕ) → r ≡ Some x → z ≡ length (sep_if o) → n + z + x.len + length (tail_from s true (x.start + x.len + 1)) ≡ length (tail_from s b at)
-    len_on x z g l =
-        let t = first_found f g in
-        let c : length (take x.len (drop x.start s)) ≡ x.len = length-take-le x.len (drop x.start s) (omega (arith, length-drop x.start s, t.high)) in
-        omega (arith, simp length-append at (ap length (tail_on x g)))
+    pub len_on : (x : Part) (m : List Element) (z : ℕ) → l ≡ lift x ∷ m → x.start + x.len ≤ length s → z ≡ length (sep_if o) → n + z + x.len + length (tail_of s true m) ≡ length (tail_from s b at)
+    len_on x m z g h w =
+        let c : length (take x.len (drop x.start s)) ≡ x.len = length-take-le x.len (drop x.start s) (omega (arith, length-drop x.start s)) in
+        omega (arith, simp length-append at (ap length (tail_on x m g)))
 
-  module _ (n z : ℕ) (l : z ≡ length (sep_if o)) where
-    pub gap_fits : n ≤ length s + 1 → length s * 1 < 2 ^ 63 → Fits w64 (n + z)
-    gap_fits c w = record { fits = omega (arith, gap_few o) }
-
-    module _ (x : Part) (g : r ≡ Some x) (c : n ≤ i) where
-      pub len_low : n + z + x.len ≤ x.start + x.len + 1
-      len_low = let t = first_found f g in omega (arith, gap_few o, t.low)
-
-      pub len_high : n + z + x.len ≤ length s + 1
-      len_high = let t = first_found f g in omega (arith, gap_few o, t.low, t.high)
-
-      pub len_fits : Fits w64 (n + z + x.len)
-      len_fits = let t = first_found f g in record { fits = omega (arith, gap_few o, t.low, t.high, t.room) }
+-- what the loop begins with
+pub tail_start : (s : List ℕ) (b : Bool) (i : ℕ) (l : List Element) → l ≡ from (is_sep Unix) false s i → tail_of s b l ≡ tail_from s b i
+unfolding tail_from
+tail_start s b i l e = rw e refl
 
 -- ---- what comes of s is no longer than s and two bytes
 module _ (s : List ℕ) where
@@ -236,34 +225,38 @@ module _ (s : List ℕ) (b : Bool) (i m n : ℕ) where
         short = λ e. omega (arith, l.is, leb-false (m + k) n e);
       }
 
-pub ruleset lens = (room_much, room_counted, len_open, len_shut, len_on, gap_fits, len_low, len_high, len_fits)
+pub ruleset lens = (room_much, room_counted, len_open, len_shut, len_on, tail_start, gap_few)
 
--- `write_tail`: f says what the loop has kept
-module _ (w b s : List ℕ) (i : ℕ) (o : Bool) (n : ℕ) (out : List ℕ) (f : Front w b (tail_from s o i) n out) (r : Option Part) (g : FirstAt (is_sep Unix) false s i r) where
-  module _ (x : Part) (h : r ≡ Some x) where
-    gap_next : Front w b (sep_if o ++ (take x.len (drop x.start s) ++ tail_from s true (x.start + x.len + 1))) n out
-    gap_next = rw (tail_on s i r g o x h) at f
+-- `write_tail`: what the loop begins with
+pub front_start : (s b : List ℕ) (o : Bool) (i n : ℕ) (l : List Element) → l ≡ from (is_sep Unix) false s i → n + length (tail_from s o i) ≤ length b → Front (take n b ++ tail_from s o i) b (tail_of s o l) n b
+front_start s b o i n l e h = rw (tail_start s o i l e) (front_at b (tail_from s o i) n h)
+
+-- f says what the loop has kept
+module _ (w b s : List ℕ) (l : List Element) (o : Bool) (n : ℕ) (out : List ℕ) (f : Front w b (tail_of s o l) n out) where
+  module _ (x : Part) (m : List Element) (h : l ≡ lift x ∷ m) where
+    gap_next : Front w b (sep_if o ++ (take x.len (drop x.start s) ++ tail_of s true m)) n out
+    gap_next = rw (tail_on s o l x m h) at f
 
     pub on_gap : n + length (sep_if o) ≤ length out
-    on_gap = front_room (sep_if o) (take x.len (drop x.start s) ++ tail_from s true (x.start + x.len + 1)) gap_next
+    on_gap = front_room (sep_if o) (take x.len (drop x.start s) ++ tail_of s true m) gap_next
 
-    module _ (m : ℕ) (one : List ℕ) (p : m ≡ n + length (sep_if o)) (q : one ≡ over (take n out ++ sep_if o) out) where
-      part_next : Front w b (take (x.start + x.len - x.start) (drop x.start s) ++ tail_from s true (x.start + x.len + 1)) m one
-      part_next = rw (add-sub_cancel_left x.start x.len) (front_push (sep_if o) (take x.len (drop x.start s) ++ tail_from s true (x.start + x.len + 1)) gap_next q p)
+    module _ (p : ℕ) (one : List ℕ) (i : p ≡ n + length (sep_if o)) (q : one ≡ over (take n out ++ sep_if o) out) where
+      part_next : Front w b (take (x.start + x.len - x.start) (drop x.start s) ++ tail_of s true m) p one
+      part_next = rw (add-sub_cancel_left x.start x.len) (front_push (sep_if o) (take x.len (drop x.start s) ++ tail_of s true m) gap_next q i)
 
-      pub on_room : m + length (take (x.start + x.len - x.start) (drop x.start s)) ≤ length one
-      on_room = front_room (take (x.start + x.len - x.start) (drop x.start s)) (tail_from s true (x.start + x.len + 1)) part_next
+      pub on_room : p + length (take (x.start + x.len - x.start) (drop x.start s)) ≤ length one
+      on_room = front_room (take (x.start + x.len - x.start) (drop x.start s)) (tail_of s true m) part_next
 
-      pub on_put : (k : ℕ) (after : List ℕ) → k ≡ m + length (take (x.start + x.len - x.start) (drop x.start s)) → after ≡ over (take m one ++ take (x.start + x.len - x.start) (drop x.start s)) one → Front w b (tail_from s true (x.start + x.len + 1)) k after
-      on_put k after c e = front_push (take (x.start + x.len - x.start) (drop x.start s)) (tail_from s true (x.start + x.len + 1)) part_next e c
+      pub on_put : (k : ℕ) (after : List ℕ) → k ≡ p + length (take (x.start + x.len - x.start) (drop x.start s)) → after ≡ over (take p one ++ take (x.start + x.len - x.start) (drop x.start s)) one → Front w b (tail_of s true m) k after
+      on_put k after c e = front_push (take (x.start + x.len - x.start) (drop x.start s)) (tail_of s true m) part_next e c
 
-  module _ (h : r ≡ None) (y : Bool) (e : y ≡ ends s) where
+  module _ (h : l ≡ []) (y : Bool) (e : y ≡ ends s) where
     pub end_shut : y ≡ false → out ≡ over w b
-    end_shut k = front_all (rw (tail_shut s i r g o h y e k) at f)
+    end_shut k = front_all (rw (tail_shut s o l h y e k) at f)
 
     module _ (k : y ≡ true) where
       gap_last : Front w b (sep_if o ++ []) n out
-      gap_last = rw append-nil (rw (tail_open s i r g o h y e k) at f)
+      gap_last = rw append-nil (rw (tail_open s o l h y e k) at f)
 
       pub end_room : n + length (sep_if o) ≤ length out
       end_room = front_room (sep_if o) [] gap_last
@@ -272,20 +265,20 @@ module _ (w b s : List ℕ) (i : ℕ) (o : Bool) (n : ℕ) (out : List ℕ) (f :
       end_put m after p q = front_all (front_push (sep_if o) [] gap_last q p)
 
 -- the place behind all that is to come
-module _ (b t s : List ℕ) (j i : ℕ) (o : Bool) (n : ℕ) (out : List ℕ) (f : Front (take j b ++ t) b (tail_from s o i) n out) (c : j + length t ≤ length b) (r : Option Part) (g : FirstAt (is_sep Unix) false s i r) (h : r ≡ None) (y : Bool) (e : y ≡ ends s) where
+module _ (b t s : List ℕ) (j : ℕ) (l : List Element) (o : Bool) (n : ℕ) (out : List ℕ) (f : Front (take j b ++ t) b (tail_of s o l) n out) (c : j + length t ≤ length b) (h : l ≡ []) (y : Bool) (e : y ≡ ends s) where
   all : (m : ℕ) (after : List ℕ) → Front (take j b ++ t) b [] m after → m ≡ j + length t
   all m after u = omega (arith, u.within, length-drop m (take j b ++ t), ap length u.to_come, length-append (take j b) t, length-take-le j b (omega arith))
 
   pub stop_shut : y ≡ false → n ≡ j + length t
-  stop_shut k = all n out (rw (tail_shut s i r g o h y e k) at f)
+  stop_shut k = all n out (rw (tail_shut s o l h y e k) at f)
 
   pub stop_open : (m : ℕ) (after : List ℕ) → y ≡ true → after ≡ over (take n out ++ sep_if o) out → m ≡ n + length (sep_if o) → m ≡ j + length t
-  stop_open m after k q p = all m after (front_push (sep_if o) [] (rw append-nil (rw (tail_open s i r g o h y e k) at f)) q p)
+  stop_open m after k q p = all m after (front_push (sep_if o) [] (rw append-nil (rw (tail_open s o l h y e k) at f)) q p)
 
 pub front_long : (w b rest : List ℕ) (n : ℕ) (out : List ℕ) → Front w b rest n out → length out ≡ length b
 front_long w b rest n out f = f.long
 
-pub ruleset writes = (front_at, on_gap, on_room, on_put, end_shut, end_room, end_put, stop_shut, stop_open, front_long)
+pub ruleset writes = (front_start, on_gap, on_room, on_put, end_shut, end_room, end_put, stop_shut, stop_open, front_long)
 
 -- ---- `finish`
 module _ (s t : List ℕ) (h : Start) (p : OpenAt Unix s h) (o : Bool) (q : o ≡ wants Unix t) (b : List ℕ) (x : Bool) (l : RoomAt s o h.at (length t) (length b) x) where

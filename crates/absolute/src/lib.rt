@@ -1,6 +1,6 @@
 // Unix `absolute`: a path made absolute in a current directory that is handed in. A walk over the path's parts writes; where
 // the room may not be enough, another before it finds the finished length.
-#![tactic(auto, using(crate::specs::Laws::finishes, crate::specs::Laws::gaps, crate::specs::Laws::lens, crate::specs::Laws::replies, crate::specs::Laws::slashes, crate::specs::Laws::writes, parts::specs::Laws::walks))]
+#![tactic(auto, using(crate::specs::Laws::finishes, crate::specs::Laws::gaps, crate::specs::Laws::lens, crate::specs::Laws::replies, crate::specs::Laws::slashes, crate::specs::Laws::writes, parts::specs::Runs::turns))]
 
 ghost use Rattle.std.specs.Prelude.{◌≡◌, ◌++◌, ◌+◌, ◌^◌, ◌<◌, ◌≤◌, length, take};
 ghost use Rattle.answers.specs.Outcome.{give};
@@ -10,6 +10,7 @@ ghost use Rattle.absolute.specs.Leaves.{sep_if, tail_from, TailLen, RoomAt};
 
 use answers::{Reply, View};
 use octets::Seps;
+use parts::Parts;
 
 // Whether a path ends in a separator.
 fn ends_sep(s: &[u8]) -> bool
@@ -34,7 +35,7 @@ fn gap(apart: bool) -> usize
     usize::from(apart)
 }
 
-// A separator at n in out, where one is wanted; the place behind it.
+// A separator at n in out, where one is wanted; the place behind it. Buffer and place are no struct, as in `buffers`.
 fn put_gap(out: &mut [u8], n: usize, apart: bool) -> usize
     requires { n + length (sep_if apart) ≤ length out.old }
     ensures r_value { result ≡ n + length (sep_if apart) }
@@ -47,16 +48,15 @@ fn put_gap(out: &mut [u8], n: usize, apart: bool) -> usize
 }
 
 // How many bytes come of s from `at` on, where the start before them wants a separator or does not.
+#[tactic(auto, using(crate::specs::Laws::lens, parts::specs::Runs::turns))]
 fn tail_len(s: &[u8], at: usize, apart: bool) -> usize
     ensures { TailLen s.now apart at result }
 {
-    let mut i = at;
     let mut o = apart;
     let mut n: usize = 0;
-    while let Some(x) = parts::first(Seps::Unix, s, i) {
-        n = n + gap(o) + x.len;
+    for x in Parts::new(Seps::Unix, s, at) {
+        n += gap(o) + x.len;
         o = true;
-        i = x.start + x.len + 1;
     }
     if ends_sep(s) {
         return n + gap(o);
@@ -73,20 +73,18 @@ fn has_room(s: &[u8], at: usize, apart: bool, m: usize, n: usize) -> bool
 }
 
 // The same bytes, written behind a start that ends at `begin`; the place behind them.
+#[tactic(auto, using(crate::specs::Laws::writes, parts::specs::Runs::turns))]
 fn write_tail(s: &[u8], at: usize, apart: bool, out: &mut [u8], begin: usize) -> usize
     requires { begin + length (tail_from s.now apart at) ≤ length out.old }
     ensures r_value { result ≡ begin + length (tail_from s.now apart at) }
     ensures out_after { out.new ≡ over (take begin out.old ++ tail_from s.now apart at) out.old }
 {
-    let mut i = at;
     let mut o = apart;
     let mut n = begin;
-    while let Some(x) = parts::first(Seps::Unix, s, i) {
-        let e = x.start + x.len;
+    for x in Parts::new(Seps::Unix, s, at) {
         let m = put_gap(out, n, o);
-        n = buffers::push(out, m, &s[x.start..e]);
+        n = buffers::push(out, m, &s[x.start..x.start + x.len]);
         o = true;
-        i = e + 1;
     }
     if ends_sep(s) {
         return put_gap(out, n, o);

@@ -22,6 +22,7 @@ use Rattle.parts.specs.Steps.{lift, raised, within, LastAt}
 use Rattle.parts.specs.Laws.{nth_inside, back_behind, back_inside_of, last_found}
 use Rattle.components.specs.declared.Start.{Start}
 use Rattle.components.specs.declared.Body.{Body}
+use Rattle.components.specs.declared.opened.Opened.{Opened}
 use Rattle.components.specs.List.{prefix_part, dir_part, head_list, body_list, whole_of, list_of, start_of}
 use Rattle.components.specs.Leaves.{OpenAt, BodyAt, CountAt}
 use Rattle.components.specs.Laws.{whole_list, whole_body, head_few, open_start, last_part, last_behind}
@@ -71,7 +72,7 @@ head_low h n f c g = omega (arith, head_few h, c.is)
 far : (d : Bool) (n f b : ℕ) → 2 ≤ f → behind_dot d n f b ≡ false
 far d n f b g = split d (λ t. sym (dot_far d n f b t g)) (λ t. sym (dot_plain d n f b t))
 
-module _ (h : Start) (s : List ℕ) (f b n : ℕ) (c : CountAt (head_list h) n) (w : In h s) (g : 2 ≤ f) (p : Option Part) (e : raised p ≡ nth_of (from (is_sep h.seps) (dots h.seps) s h.at) (f - n)) (x : Part) (i : p ≡ Some x) (q : Option Part) (d : raised q ≡ nth_back_of (within (is_sep h.seps) (dots h.seps) s x.start (length s)) b) (y : Part) (j : q ≡ Some y) where
+module _ (h : Start) (s : List ℕ) (f b n : ℕ) (c : CountAt (head_list h) n) (g : 2 ≤ f) (p : Option Part) (e : raised p ≡ nth_of (from (is_sep h.seps) (dots h.seps) s h.at) (f - n)) (x : Part) (i : p ≡ Some x) (q : Option Part) (d : raised q ≡ nth_back_of (within (is_sep h.seps) (dots h.seps) s x.start (length s)) b) (y : Part) (j : q ≡ Some y) where
   abbrev all : List Element
   all = from (is_sep h.seps) (dots h.seps) s h.at
 
@@ -107,8 +108,8 @@ module _ (h : Start) (s : List ℕ) (f b n : ℕ) (c : CountAt (head_list h) n) 
   left : x.start ≡ left_end (whole_of h s) f
   left = left_later (whole_of h s) f (Some (lift x)) x.start (λ z. omega arith) (λ z. omega arith) (whole_body h s n c f p (Some (lift x)) (head_low h n f c g) e (rw i)) refl
 
-  pub between_fits : Fits w64 (y.start + y.len)
-  between_fits = record { fits = rw (← right) (omega (arith, back_small h s w (nth_back_of (whole_of h s) b) b refl)) }
+  pub between_fits : In h s → Fits w64 (y.start + y.len)
+  between_fits w = record { fits = rw (← right) (omega (arith, back_small h s (nth_back_of (whole_of h s) b) b refl w)) }
 
   pub between_is : SeenAt h s f b (Some (span x.start (y.start + y.len)))
   unfolding rest_of
@@ -138,7 +139,7 @@ module _ (h : Start) (s : List ℕ) (b : ℕ) (p : Option Part) (e : raised p �
   last_is = sym (back_behind (head_list h) parts b inside ∙ found)
 
   pub second_fits : In h s → Fits w64 (x.start + x.len)
-  second_fits w = record { fits = omega (arith, back_small h s w (Some (lift x)) b last_is) }
+  second_fits w = record { fits = omega (arith, back_small h s (Some (lift x)) b last_is w) }
 
   module _ (n : ℕ) (c : CountAt (head_list h) n) (z : n ≡ 0 → ⊥) where
     far_in : 1 + b < length (whole_of h s)
@@ -211,6 +212,10 @@ module _ (k : Seps) (s : List ℕ) (w : Body) (o : BodyAt k s w) (p : Option Par
 pub rest_zero : (k : Seps) (s : List ℕ) (f b : ℕ) (r : Option Span) → f ≡ 0 → b ≡ 0 → r ≡ rest_asked k s 0 0 → r ≡ rest_asked k s f b
 rest_zero k s f b r z y e = rw (z, y) e
 
-pub ruleset alls = (all_fits, all_is, rest_zero)
+-- the rest of a path is that of the path opened
+pub opened_rest : (o : Opened) (k : Seps) (s : List ℕ) (f b : ℕ) (r : Option Span) → o.seps ≡ k → o.path.now ≡ s → r ≡ rest_asked o.seps o.path.now f b → r ≡ rest_asked k s f b
+opened_rest o k s f b r i j e = rw (← i, ← j) e
+
+pub ruleset alls = (all_fits, all_is, rest_zero, opened_rest)
 
 pub ruleset ends = (head_low, between_fits, between_is, back_is, second_fits, second_is, plain_is, seen_none, seen_one, seen_is)

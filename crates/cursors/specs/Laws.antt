@@ -1,19 +1,24 @@
 -- Laws of the cursor: one a way through each function.
-use Rattle.std.specs.Prelude.{ℕ, ◌+◌, ◌-◌, ◌*◌, ◌^◌, ◌<◌, ◌≤◌, List, Bool, true, false, length, eqb, ltb, Option, Some, None}
+use Rattle.std.specs.Prelude.{ℕ, ◌+◌, ◌-◌, ◌^◌, ◌<◌, ◌≤◌, List, ◌++◌, Bool, true, false, cond, length, eqb, ltb, Option, Some, None}
 use Rattle.std.specs.Int.{w64}
 use Rattle.std.proofs.Common.{Fits, arith, sym, ◌∙◌}
-use Rattle.std.proofs.Math.Path.{◌≡◌}
+use Rattle.std.proofs.Math.Path.{◌≡◌, refl}
+use Rattle.std.proofs.lemmas.Bool.{false≢true}
 use borrow.Author.Tests.{eq-eqb, ne_eqb, lt-ltb, le-ltb, ltb-true, ltb-false, eqb-true, eqb-false}
 use Rattle.octets.specs.Laws.{split}
 use Rattle.octets.specs.declared.Seps.{Seps}
-use Rattle.prefixes.specs.Prefix.{on_disk}
+use Rattle.prefixes.specs.Prefix.{is_disk, on_disk}
+use Rattle.prefixes.specs.declared.Prefix.{Prefix}
 use Rattle.parts.specs.declared.Element.{Element}
 use Rattle.parts.specs.Elements.{nth_of, nth_back_of, start_or, end_or}
 use Rattle.parts.specs.Laws.{upto_nth}
+use Rattle.components.specs.declared.Dir.{Dir}
+use Rattle.components.specs.declared.Dir.TheVariants.{Bare, Root, Implied, Dot as Lone}
 use Rattle.components.specs.declared.Start.{Start}
-use Rattle.components.specs.List.{dot_at, start_of, whole_of, list_of}
+use Rattle.components.specs.declared.opened.Opened.{Opened}
+use Rattle.components.specs.List.{dot_at, dir_len, start_of, prefix_part, dir_part, whole_of, list_of}
 use Rattle.components.specs.Leaves.{OpenAt, CountAt}
-use Rattle.components.specs.Laws.{whole_list, list_upto}
+use Rattle.components.specs.Laws.{dot_inside, whole_list, list_upto}
 use Rattle.cursors.specs.declared.Left.{Left}
 use Rattle.cursors.specs.declared.Left.TheVariants.{Beyond, Spent, More}
 use Rattle.cursors.specs.declared.Span.{Span}
@@ -80,13 +85,13 @@ module _ (i : Option Element) (p : Element) (e : i ≡ Some p) where
   prefix_here b f = f ∙ rw e
 
 -- each end lies in the path
-module _ (h : Start) (s : List ℕ) (w : In h s) (i : Option Element) where
-  pub nth_small : (f : ℕ) → i ≡ nth_of (whole_of h s) f → end_or i < 2 ^ 63
-  nth_small f e = rw e (omega (arith, upto_nth (length s) (whole_of h s) f w.upto, w.small))
+module _ (h : Start) (s : List ℕ) (i : Option Element) where
+  pub nth_small : (f : ℕ) → i ≡ nth_of (whole_of h s) f → In h s → end_or i < 2 ^ 63
+  nth_small f e w = rw e (omega (arith, upto_nth (length s) (whole_of h s) f w.upto, w.small))
 
-  pub back_small : (b : ℕ) → i ≡ nth_back_of (whole_of h s) b → end_or i < 2 ^ 63
+  pub back_small : (b : ℕ) → i ≡ nth_back_of (whole_of h s) b → In h s → end_or i < 2 ^ 63
   unfolding nth_back_of
-  back_small b e = rw e (split (ltb b (length (whole_of h s))) (λ t. rw t (omega (arith, upto_nth (length s) (whole_of h s) (length (whole_of h s) - 1 - b) w.upto, w.small))) (λ t. rw t (omega arith)))
+  back_small b e w = rw e (split (ltb b (length (whole_of h s))) (λ t. rw t (omega (arith, upto_nth (length s) (whole_of h s) (length (whole_of h s) - 1 - b) w.upto, w.small))) (λ t. rw t (omega arith)))
 
 -- `end_at`, `left_end`, `right_end`, `empty_at`
 module _ (l : List Element) where
@@ -179,14 +184,41 @@ module _ (h : Start) (s : List ℕ) (n f b : ℕ) (c : n ≡ length (whole_of h 
     unfolding rest_of
     rest_none z l j = rw (j, dot_of_lem, y) (simp (le-ltb (f + b) (length (whole_of h s)) (omega arith)))
 
-pub dot_fits : (h : Start) (s : List ℕ) (z : ℕ) → In h s → z ≡ end_or (nth_of (whole_of h s) 0) → Fits w64 (z + 1)
-dot_fits h s z w e = record { fits = rw e (omega (arith, upto_nth (length s) (whole_of h s) 0 w.upto, w.small)) }
+pub dot_fits : (h : Start) (s : List ℕ) (z : ℕ) → z ≡ end_or (nth_of (whole_of h s) 0) → In h s → Fits w64 (z + 1)
+dot_fits h s z e w = record { fits = rw e (omega (arith, upto_nth (length s) (whole_of h s) 0 w.upto, w.small)) }
 
--- `rest_in`
+-- a dot behind a drive: the prefix stands alone in the head
+pub drive_alone : (k : Seps) (s : List ℕ) (p : Option Prefix) (d : Dir) (e : ℕ) → cond (on_disk p) (cond (is_bare d) (dot_at k s e) false) false ≡ true → (length (prefix_part p e ++ dir_part d e) ≡ 1) × (dir_len d ≡ 0) × (dot_at k s e ≡ true)
+drive_alone k s None d e h = absurd (false≢true h)
+drive_alone k s (Some p) Bare e h = split (is_disk p) (λ t. (refl, refl, rw t at h)) (λ t. absurd (false≢true (rw t at h)))
+drive_alone k s (Some p) Root e h = split (is_disk p) (λ t. absurd (false≢true (rw t at h))) (λ t. absurd (false≢true (rw t at h)))
+drive_alone k s (Some p) Implied e h = split (is_disk p) (λ t. absurd (false≢true (rw t at h))) (λ t. absurd (false≢true (rw t at h)))
+drive_alone k s (Some p) Lone e h = split (is_disk p) (λ t. absurd (false≢true (rw t at h))) (λ t. absurd (false≢true (rw t at h)))
+
+pub dot_in_lem : (k : Seps) (s : List ℕ) (h : Start) → OpenAt k s h → dotted h s ≡ true → h.at + 1 ≤ length s
+unfolding dotted start_of
+dot_in_lem k s h o y =
+    let a = drive_alone h.seps s h.prefix h.dir h.end y in
+    let b : h.at ≡ h.end + dir_len h.dir = rw o.is in
+    omega (arith, dot_inside h.seps s h.end a.2)
+
+-- `head_end`
+module _ (o : Opened) (b : Bool) (e : b ≡ dotted o.start o.path.now) where
+  pub head_fits : b ≡ true → Fits w64 (o.start.at + 1)
+  head_fits y = record { fits = omega (arith, dot_in_lem o.seps o.path.now o.start o.open (sym e ∙ y), o.small) }
+
+  pub head_dot : b ≡ true → (o.start.at + 1 ≡ o.start.at + cond (dotted o.start o.path.now) 1 0) × (o.start.at + 1 ≤ length o.path.now)
+  head_dot y = (rw (← e, y), dot_in_lem o.seps o.path.now o.start o.open (sym e ∙ y))
+
+  pub head_plain : b ≡ false → (o.start.at ≡ o.start.at + cond (dotted o.start o.path.now) 1 0) × (o.start.at ≤ length o.path.now)
+  head_plain n = (rw (← e, n) (omega arith), o.open.high)
+
+-- an opened path's list lies in it
+pub opened_in : (o : Opened) → In o.start o.path.now
+opened_in o = record { upto = list_upto o.seps o.path.now o.start o.open; small = o.small }
+
+-- `rest_counted`
 module _ (k : Seps) (s : List ℕ) (h : Start) (o : OpenAt k s h) where
-  pub rest_in : length s * 1 < 2 ^ 63 → In h s
-  rest_in w = record { upto = list_upto k s h o; small = omega arith }
-
   module _ (n f b : ℕ) (c : CountAt (whole_of h s) n) where
     asked : n < f + b → None ≡ rest_asked k s f b
     unfolding rest_asked
@@ -206,7 +238,7 @@ module _ (k : Seps) (s : List ℕ) (h : Start) (o : OpenAt k s h) where
       unfolding rest_asked
       rest_is r l e = rw (← whole_list k s h o, ← c.is) (simp (le-ltb n (f + b) (omega arith)) (rw (e, ← o.is)))
 
-pub ruleset cursors = (rest_dot, rest_some, rest_none, dot_fits, rest_in, rest_front, rest_over, rest_fits, rest_is, left_one, left_back, left_some, left_spent, left_beyond, left_list, start_here, end_here, end_fits, prefix_here, nth_small, back_small, end_nth, right_nth, left_zero, left_prefix, left_first, left_later, empty_zero, empty_past, dotted_not, dotted_root, dotted_dot, dot_plain, dot_far, dot_over, dot_one)
+pub ruleset cursors = (rest_dot, rest_some, rest_none, dot_fits, head_fits, head_plain, opened_in, rest_front, rest_over, rest_fits, rest_is, left_one, left_back, left_some, left_spent, left_beyond, left_list, start_here, end_here, end_fits, prefix_here, nth_small, back_small, end_nth, right_nth, left_zero, left_prefix, left_first, left_later, empty_zero, empty_past, dotted_not, dotted_root, dotted_dot, dot_plain, dot_far, dot_over, dot_one)
 
 -- what the rest's answer tells
 module _ (k : Seps) (s : List ℕ) (f b : ℕ) where

@@ -1,14 +1,13 @@
 // What a counted cursor finds in a path's list: whether anything is left, and the part of the path that no step has taken.
-#![tactic(auto, using(crate::specs::Ends::alls, crate::specs::Ends::ends, crate::specs::Laws::cursors))]
+#![tactic(auto, using(crate::specs::Laws::cursors, crate::specs::Ends::ends, crate::specs::Ends::alls))]
 
-ghost use Rattle.std.specs.Prelude.{◌≡◌, false, ℕ, ◌+◌, ◌-◌, ◌^◌, ◌<◌, ◌≤◌, length};
+ghost use Rattle.std.specs.Prelude.{◌≡◌, false, cond, ℕ, ◌+◌, ◌-◌, ◌^◌, ◌<◌, ◌≤◌, length};
 ghost use Rattle.parts.specs.Elements.{nth_of, nth_back_of, start_or, end_or};
 ghost use Rattle.components.specs.List.{whole_of, list_of, start_of};
 ghost use Rattle.cursors.specs.Rest.{left_of, is_prefix, left_end, right_end, empty_at, dotted, behind_dot, rest_of, rest_asked};
-ghost use Rattle.components.specs.Leaves.{OpenAt};
-ghost use Rattle.cursors.specs.Leaves.{In, SeenAt};
+ghost use Rattle.cursors.specs.Leaves.{SeenAt};
 
-use components::{Dir, Start};
+use components::{Dir, Opened, Start};
 use octets::Seps;
 use parts::{Component, Element};
 
@@ -78,54 +77,49 @@ fn is_prefix(i: Option<Element>) -> bool
 }
 
 // The end of element f; it lies in the path.
-fn end_at(h: Start, s: &[u8], f: usize) -> usize
-    requires { In h s.now }
-    ensures { result ≡ end_or (nth_of (whole_of h s.now) f) }
+fn end_at(o: &Opened<'_>, f: usize) -> usize
+    ensures { result ≡ end_or (nth_of (whole_of o.now.start o.now.path.now) f) }
 {
-    end_or(components::element_of(h, s, f))
+    end_or(components::element_of(o.start, o.path, f))
 }
 
 // The left end of what is left behind the first element.
-fn left_second(h: Start, s: &[u8]) -> usize
-    requires { In h s.now }
-    ensures { result ≡ left_end (whole_of h s.now) 1 }
+fn left_second(o: &Opened<'_>) -> usize
+    ensures { result ≡ left_end (whole_of o.now.start o.now.path.now) 1 }
 {
-    let i = components::element_of(h, s, 0);
+    let i = components::element_of(o.start, o.path, 0);
     if is_prefix(i) {
         return end_or(i);
     }
-    start_or(components::element_of(h, s, 1))
+    start_or(components::element_of(o.start, o.path, 1))
 }
 
 // The left end of what is left.
-fn left_end(h: Start, s: &[u8], f: usize) -> usize
-    requires { In h s.now }
-    ensures { result ≡ left_end (whole_of h s.now) f }
+fn left_end(o: &Opened<'_>, f: usize) -> usize
+    ensures { result ≡ left_end (whole_of o.now.start o.now.path.now) f }
 {
     match f {
         0 => 0,
-        1 => left_second(h, s),
-        _ => start_or(components::element_of(h, s, f)),
+        1 => left_second(o),
+        _ => start_or(components::element_of(o.start, o.path, f)),
     }
 }
 
 // The right end of what is left.
-fn right_end(h: Start, s: &[u8], b: usize) -> usize
-    requires { In h s.now }
-    ensures { result ≡ right_end (whole_of h s.now) b }
+fn right_end(o: &Opened<'_>, b: usize) -> usize
+    ensures { result ≡ right_end (whole_of o.now.start o.now.path.now) b }
 {
-    end_or(components::element_back_of(h, s, b))
+    end_or(components::element_back_of(o.start, o.path, b))
 }
 
 // Where nothing is left.
-fn empty_at(h: Start, s: &[u8], f: usize) -> usize
-    requires { In h s.now }
-    ensures { result ≡ empty_at (whole_of h s.now) f }
+fn empty_at(o: &Opened<'_>, f: usize) -> usize
+    ensures { result ≡ empty_at (whole_of o.now.start o.now.path.now) f }
 {
     if f == 0 {
         return 0;
     }
-    end_at(h, s, f - 1)
+    end_at(o, f - 1)
 }
 
 // Whether a Disk prefix with no root is followed by a segment `.`, which belongs to no component.
@@ -137,6 +131,17 @@ pub fn is_dotted(h: Start, s: &[u8]) -> bool
         && components::dot_at(h.seps, s, h.end)
 }
 
+// Where the head ends, with a dot that is no component behind a drive, as in `C:.`.
+pub fn head_end(o: &Opened<'_>) -> usize
+    ensures { (result ≡ o.now.start.at + cond (dotted o.now.start o.now.path.now) 1 0) × (result ≤ length o.now.path.now) }
+{
+    if is_dotted(o.start, o.path) {
+        o.start.at + 1
+    } else {
+        o.start.at
+    }
+}
+
 // Whether, of n elements, none behind the prefix remains, and the right end is behind that dot.
 fn behind_dot(d: bool, n: usize, f: usize, b: usize) -> bool
     ensures { result ≡ behind_dot d n f b }
@@ -144,61 +149,60 @@ fn behind_dot(d: bool, n: usize, f: usize, b: usize) -> bool
     d && f < 2 && b < n && n - b == 1
 }
 
-// What is left of the list that a start tells of, which has n elements.
-fn rest_of(h: Start, s: &[u8], n: usize, f: usize, b: usize) -> Span
-    requires fact { In h s.now }
-    requires n_value { (n ≡ length (whole_of h s.now)) × (f + b ≤ n) }
-    ensures { result ≡ rest_of (dotted h s.now) (whole_of h s.now) f b }
+// What is left of an opened path's list, which has n elements.
+fn rest_of(o: &Opened<'_>, n: usize, f: usize, b: usize) -> Span
+    requires { (n ≡ length (whole_of o.now.start o.now.path.now)) × (f + b ≤ n) }
+    ensures { result ≡ rest_of (dotted o.now.start o.now.path.now) (whole_of o.now.start o.now.path.now) f b }
 {
-    if behind_dot(is_dotted(h, s), n, f, b) {
+    if behind_dot(is_dotted(o.start, o.path), n, f, b) {
         return Span {
-            start: left_end(h, s, f),
-            end: end_at(h, s, 0) + 1,
+            start: left_end(o, f),
+            end: end_at(o, 0) + 1,
         };
     }
     if f + b < n {
         return Span {
-            start: left_end(h, s, f),
-            end: right_end(h, s, b),
+            start: left_end(o, f),
+            end: right_end(o, b),
         };
     }
-    let e = empty_at(h, s, f);
+    let e = empty_at(o, f);
     Span { start: e, end: e }
 }
 
 // With none taken at the front, what stands before the last b.
-fn rest_back(h: Start, s: &[u8], b: usize) -> Option<Span>
-    requires { In h s.now × (dotted h s.now ≡ false) }
-    ensures { SeenAt h s.now 0 b result }
+fn rest_back(o: &Opened<'_>, b: usize) -> Option<Span>
+    requires { dotted o.now.start o.now.path.now ≡ false }
+    ensures { SeenAt o.now.start o.now.path.now 0 b result }
 {
-    let i = components::element_back_of(h, s, b);
+    let i = components::element_back_of(o.start, o.path, b);
     let end = end_or(i);
     i.map(|_| Span { start: 0, end })
 }
 
 // With one taken at the front, of a head: all parts are left, and the one that has b behind it is the last.
-fn rest_second(h: Start, s: &[u8], b: usize) -> Option<Span>
-    requires { In h s.now × (dotted h s.now ≡ false) }
-    ensures { SeenAt h s.now 1 b result }
+fn rest_second(o: &Opened<'_>, b: usize) -> Option<Span>
+    requires { dotted o.now.start o.now.path.now ≡ false }
+    ensures { SeenAt o.now.start o.now.path.now 1 b result }
 {
-    if components::head_count(h) == 0 {
+    if components::head_count(o.start) == 0 {
         return None;
     }
-    let x = parts::nth_back(h.seps, s, h.at, s.len(), b)?;
+    let x = parts::nth_back(o.start.seps, o.path, o.start.at, o.path.len(), b)?;
     Some(Span {
-        start: left_second(h, s),
+        start: left_second(o),
         end: x.start + x.len,
     })
 }
 
 // Behind the head: from part f to the part that has b behind it, which is looked for no farther than part f.
-fn rest_between(h: Start, s: &[u8], f: usize, b: usize) -> Option<Span>
-    requires { In h s.now × (2 ≤ f) }
-    ensures { SeenAt h s.now f b result }
+fn rest_between(o: &Opened<'_>, f: usize, b: usize) -> Option<Span>
+    requires { 2 ≤ f }
+    ensures { SeenAt o.now.start o.now.path.now f b result }
 {
-    let n = components::head_count(h);
-    let x = parts::nth(h.seps, s, h.at, f - n)?;
-    let y = parts::nth_back(h.seps, s, x.start, s.len(), b)?;
+    let n = components::head_count(o.start);
+    let x = parts::nth(o.start.seps, o.path, o.start.at, f - n)?;
+    let y = parts::nth_back(o.start.seps, o.path, x.start, o.path.len(), b)?;
     Some(Span {
         start: x.start,
         end: y.start + y.len,
@@ -206,51 +210,51 @@ fn rest_between(h: Start, s: &[u8], f: usize, b: usize) -> Option<Span>
 }
 
 // The rest where at most one was taken at the front.
-fn rest_first(h: Start, s: &[u8], f: usize, b: usize) -> Option<Span>
-    requires { In h s.now × (f ≤ 1) }
-    ensures { SeenAt h s.now f b result }
+fn rest_first(o: &Opened<'_>, f: usize, b: usize) -> Option<Span>
+    requires { f ≤ 1 }
+    ensures { SeenAt o.now.start o.now.path.now f b result }
 {
-    if is_dotted(h, s) {
+    if is_dotted(o.start, o.path) {
         return None;
     }
     if f == 0 {
-        return rest_back(h, s, b);
+        return rest_back(o, b);
     }
-    rest_second(h, s, b)
+    rest_second(o, b)
 }
 
 // The rest where the ends alone tell it.
-fn rest_seen(h: Start, s: &[u8], f: usize, b: usize) -> Option<Span>
-    requires { In h s.now }
-    ensures { SeenAt h s.now f b result }
+fn rest_seen(o: &Opened<'_>, f: usize, b: usize) -> Option<Span>
+    ensures { SeenAt o.now.start o.now.path.now f b result }
 {
     if f < 2 {
-        return rest_first(h, s, f, b);
+        return rest_first(o, f, b);
     }
-    rest_between(h, s, f, b)
+    rest_between(o, f, b)
 }
 
 // The rest where all elements are counted.
-fn rest_counted(k: Seps, h: Start, s: &[u8], f: usize, b: usize) -> Option<Span>
-    requires { OpenAt k s.now h }
-    ensures { result ≡ rest_asked k s.now f b }
+fn rest_counted(o: &Opened<'_>, f: usize, b: usize) -> Option<Span>
+    ensures { result ≡ rest_asked o.now.seps o.now.path.now f b }
 {
-    let n = components::total_of(h, s);
+    let n = components::total_of(o.start, o.path);
     if n < f {
         return None;
     }
     if n - f < b {
         return None;
     }
-    Some(rest_of(h, s, n, f, b))
+    Some(rest_of(o, n, f, b))
 }
 
-// The rest, from where the body starts.
-fn rest_begun(k: Seps, s: &[u8], f: usize, b: usize) -> Option<Span>
-    ensures { result ≡ rest_asked k s.now f b }
+// The rest, from where the body starts. With a match: what a closure that borrows an opened path returns is not told by its contract.
+fn rest_begun(o: &Opened<'_>, f: usize, b: usize) -> Option<Span>
+    ensures { result ≡ rest_asked o.now.seps o.now.path.now f b }
 {
-    let h = components::begin(k, s);
-    rest_seen(h, s, f, b).or_else(|| rest_counted(k, h, s, f, b))
+    match rest_seen(o, f, b) {
+        Some(w) => Some(w),
+        None => rest_counted(o, f, b),
+    }
 }
 
 // The rest where nothing was taken: all up to the end of the last part, if there is one.
@@ -259,7 +263,7 @@ fn rest_whole(k: Seps, s: &[u8]) -> Option<Span>
 {
     let w = components::body_in(k, s);
     match parts::last(w.seps, s, w.at, s.len()) {
-        None => rest_begun(k, s, 0, 0),
+        None => rest_begun(&Opened::new(k, s), 0, 0),
         Some(q) => Some(Span {
             start: 0,
             end: q.start + q.len,
@@ -274,5 +278,5 @@ pub fn rest_in(k: Seps, s: &[u8], f: usize, b: usize) -> Option<Span>
     if f == 0 && b == 0 {
         return rest_whole(k, s);
     }
-    rest_begun(k, s, f, b)
+    rest_begun(&Opened::new(k, s), f, b)
 }

@@ -30,7 +30,8 @@ fn mends(g: Start, q: &[u8]) -> bool
     !q.is_empty() && verbatim::is_verbatim(g.prefix)
 }
 
-// Case 3: q behind p's prefix, which ends at e.
+// Case 3: q behind p's prefix, which ends at e. Each of these asks that both are within the limit: a type that says so would be
+// taken apart wherever a part of a path is handed on, as `&p[0..e]` here.
 fn join_root(p: &[u8], e: usize, q: &[u8], out: &mut [u8]) -> View
     requires { (length p.now ≤ limit) × (length q.now ≤ limit) × (e ≤ length p.now) }
     ensures { Wrote (give (take e p.now ++ q.now)) result out.old out.new }
@@ -72,7 +73,7 @@ fn kept_unix(p: &[u8], q: &[u8]) -> usize
     }
 }
 
-// In Unix mode no path has a prefix: two bytes decide.
+// In Unix mode no path has a prefix: two bytes decide. By `join_any` a join takes up to 1.6 times its time.
 pub fn join_unix(p: &[u8], q: &[u8], out: &mut [u8]) -> View
     requires { (length p.now ≤ limit) × (length q.now ≤ limit) }
     ensures { Wrote (give (joined Unix p.now q.now)) result out.old out.new }

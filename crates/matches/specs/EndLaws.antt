@@ -1,9 +1,10 @@
 -- Laws of the end: one a way through each function of the walk from the back, and what they rest on.
-use Rattle.std.specs.Prelude.{ℕ, ◌+◌, ◌<◌, ◌≤◌, ◌≡◌, Bool, true, false, cond, length, eqb, ltb, Option, Some, None, is_none}
+use Rattle.std.specs.Bool.{◌==◌}
+use Rattle.std.specs.Ordering.{ordering_index}
+use Rattle.std.specs.Prelude.{ℕ, ◌<◌, ◌≤◌, ◌≡◌, Bool, true, false, not, cond, eqb, ltb, Option, Some, None, is_none}
 use Rattle.std.proofs.Common.{arith, sym, ap, ◌∙◌, ne_eqb, eqb-true, ltb-true, ltb-false}
 use Rattle.std.proofs.Math.Path.{refl}
 use mathlib.Core.List.{List, [], ◌∷◌, ◌++◌, reverse, reverse-append, reverse-cons, append-nil, append_assoc}
-use Rattle.std.proofs.Math.Seq.{take-length}
 use Rattle.std.proofs.lemmas.Bool.{eqb-false}
 use Rattle.octets.specs.Class.{is_sep}
 use Rattle.octets.specs.Laws.{split}
@@ -15,16 +16,15 @@ use Rattle.parts.specs.declared.Element.{Element}
 use Rattle.parts.specs.declared.Kind.{Kind}
 use Rattle.parts.specs.declared.Kind.TheVariants.{Dot as LoneDot, DotDot, Name}
 use Rattle.parts.specs.declared.Part.{Part}
-use Rattle.parts.specs.Body.{component_of, dots}
-use Rattle.parts.specs.Steps.{lift, within, LastAt}
-use Rattle.parts.specs.Laws.{last_none, last_found}
+use Rattle.parts.specs.Body.{component_of, dots, from}
+use Rattle.parts.specs.Steps.{lift}
 use Rattle.components.specs.declared.Dir.{Dir}
 use Rattle.components.specs.declared.Dir.TheVariants.{Bare, Root, Implied, Dot}
 use Rattle.components.specs.declared.Start.{Start}
 use Rattle.components.specs.Leaves.{OpenAt}
 use Rattle.std.specs.declared.cmp.Ordering.{Ordering}
-use Rattle.std.specs.declared.cmp.Ordering.TheVariants.{Equal}
-use Rattle.order.specs.Values.{Value, valued, prefix_value, value_of, values_in, values_of}
+use Rattle.std.specs.declared.cmp.Ordering.TheVariants.{Less, Equal, Greater}
+use Rattle.order.specs.Values.{Value, valued, prefix_value, value_of, values_in}
 use Rattle.order.specs.Order.{cmp_value}
 use Rattle.order.proofs.Ordered.{itself, value_ordered}
 use Rattle.order.specs.Leaves.{dir_rank, dir_values, head_values, body_values}
@@ -32,8 +32,8 @@ use Rattle.order.proofs.HeadLaws.{values_append, values_whole, open_kind, dot_al
 use Rattle.order.specs.Leaves.{prefix_values}
 use Rattle.order.proofs.Laws.{names_here}
 use Rattle.matches.specs.Match.{is_equal, same, starts_with, ends_with, ends_of}
-use Rattle.matches.specs.Laws.{bad, by_prefix, unequal}
-use Rattle.matches.specs.Leaves.{is_dot, Begun, same_prefix, front_of, Ahead}
+use Rattle.matches.specs.Laws.{bad, by_prefix}
+use Rattle.matches.specs.Leaves.{is_dot, Begun, same_prefix, front_of, all_of, Ahead}
 
 -- ---- from the back
 ends_snoc : (l m : List Value) (u v : Value) → ends_with (l ++ (u ∷ [])) (m ++ (v ∷ [])) ≡ cond (same u v) (ends_with l m) false
@@ -166,16 +166,14 @@ values_one : (s : List ℕ) (e : Element) → values_in s (e ∷ []) ≡ value_o
 unfolding values_in
 values_one s e = refl
 
-module _ (s : List ℕ) (g : Start) (x : ℕ) (p : Option Part) (f : LastAt (is_sep g.seps) (dots g.seps) s g.at x p) where
-  front_none : p ≡ None → front_of s g x ≡ head_values s g
+module _ (s : List ℕ) (g : Start) (l : List Element) where
+  front_none : l ≡ [] → front_of s g l ≡ head_values s g
   unfolding front_of values_in
-  front_none n = rw (last_none f n) (append-nil (head_values s g))
+  front_none n = rw n (append-nil (head_values s g))
 
-  front_found : (z : Part) → p ≡ Some z → front_of s g x ≡ front_of s g z.start ++ (value_of s (lift z) ∷ [])
+  front_found : (x : List Element) (z : Part) → l ≡ x ++ (lift z ∷ []) → front_of s g l ≡ front_of s g x ++ (value_of s (lift z) ∷ [])
   unfolding front_of
-  front_found z n =
-      rw ((last_found f n).is, values_append s (within (is_sep g.seps) (dots g.seps) s g.at z.start) (lift z ∷ []), values_one s (lift z))
-      (sym (append_assoc (head_values s g) (values_in s (within (is_sep g.seps) (dots g.seps) s g.at z.start)) (value_of s (lift z) ∷ [])))
+  front_found x z n = rw (n, values_append s x (lift z ∷ []), values_one s (lift z)) (sym (append_assoc (head_values s g) (values_in s x) (value_of s (lift z) ∷ [])))
 
 part_kind : (s : List ℕ) (z : Part) → 3 ≤ (value_of s (lift z)).kind
 part_kind s z = go z.kind
@@ -194,24 +192,24 @@ dot_same s z = go z.kind
     go Name = kinds_apart _ (valued 3 []) (λ e. absurd (omega (arith, e)))
 
 -- `ends_head`
-module _ (s : List ℕ) (g : Start) (x : ℕ) (t : List ℕ) (h : Start) (b : Begun t h) (p : Option Part) (f : LastAt (is_sep g.seps) (dots g.seps) s g.at x p) where
+module _ (s : List ℕ) (g : Start) (l : List Element) (t : List ℕ) (h : Start) (b : Begun t h) where
   abbrev front_end : Bool
-  front_end = ends_with (front_of s g x) (head_values t h)
+  front_end = ends_with (front_of s g l) (head_values t h)
 
-  pub end_heads : (r : Bool) → p ≡ None → r ≡ ends_with (head_values s g) (head_values t h) → r ≡ front_end
-  end_heads r n e = e ∙ rw (front_none s g x p f n)
+  pub end_heads : (r : Bool) → l ≡ [] → r ≡ ends_with (head_values s g) (head_values t h) → r ≡ front_end
+  end_heads r n e = e ∙ rw (front_none s g l n)
 
-  module _ (a : Part) (n : p ≡ Some a) (e : ℕ) (y : e ≡ dir_rank h.dir) where
+  module _ (x : List Element) (a : Part) (n : l ≡ x ++ (lift a ∷ [])) (e : ℕ) (y : e ≡ dir_rank h.dir) where
     -- a part against a value of another kind
     part_apart : (m : List Value) (v : Value) → head_values t h ≡ m ++ (v ∷ []) → v.kind ≤ 3 → (v.kind ≡ 3 → ⊥) → front_end ≡ false
     part_apart m v w i j =
-        rw (front_found s g x p f a n, w) (ends_apart (front_of s g a.start) m (value_of s (lift a)) v (λ u. j (omega (arith, part_kind s a, u))))
+        rw (front_found s g l x a n, w) (ends_apart (front_of s g x) m (value_of s (lift a)) v (λ u. j (omega (arith, part_kind s a, u))))
 
     pub end_dot : (r : Bool) → e ≡ 3 → r ≡ is_dot a.kind → r ≡ front_end
     end_dot r z w =
         let d : h.dir ≡ Dot = rank_dot h.dir (sym y ∙ z) in
         let v : head_values t h ≡ valued 3 [] ∷ [] = head_values_lem t h ∙ rw (b.alone d, d) (dirs_some 3 (λ i. absurd (omega (arith, i)))) in
-        w ∙ sym (dot_same s a) ∙ sym (rw (front_found s g x p f a n, v) (ends_snoc (front_of s g a.start) [] (value_of s (lift a)) (valued 3 []) ∙ rw (ends_nil (front_of s g a.start)) (go (same (value_of s (lift a)) (valued 3 [])))))
+        w ∙ sym (dot_same s a) ∙ sym (rw (front_found s g l x a n, v) (ends_snoc (front_of s g x) [] (value_of s (lift a)) (valued 3 []) ∙ rw (ends_nil (front_of s g x)) (go (same (value_of s (lift a)) (valued 3 [])))))
       where
         go : (b : Bool) → cond b true false ≡ b
         go true = refl
@@ -220,7 +218,7 @@ module _ (s : List ℕ) (g : Start) (x : ℕ) (t : List ℕ) (h : Start) (b : Be
     pub end_bare : (r : Bool) → e ≡ 0 → r ≡ is_none h.prefix → r ≡ front_end
     end_bare r z w =
         by_prefix h.prefix
-        (λ u. w ∙ ap is_none u ∙ sym (rw (head_values_lem t h, u, dirs_none (dir_rank h.dir) (sym y ∙ z)) (ends_nil (front_of s g x))))
+        (λ u. w ∙ ap is_none u ∙ sym (rw (head_values_lem t h, u, dirs_none (dir_rank h.dir) (sym y ∙ z)) (ends_nil (front_of s g l))))
         (λ q u. w ∙ ap is_none u ∙ sym (part_apart [] (prefix_value t (figures_of q)) (head_values_lem t h ∙ rw (u, dirs_none (dir_rank h.dir) (sym y ∙ z))) (omega arith) (λ i. absurd (omega (arith, i)))))
 
     pub end_root : (e ≡ 3 → ⊥) → (e ≡ 0 → ⊥) → false ≡ front_end
@@ -233,81 +231,80 @@ module _ (s : List ℕ) (g : Start) (x : ℕ) (t : List ℕ) (h : Start) (b : Be
 pub begun : (k : Seps) (s : List ℕ) (g : Start) → OpenAt k s g → Begun s g
 begun k s g o = record { names = names_here k s g o; alone = dot_alone k s g o; lead = open_kind k s g o }
 
-pub front_whole : (k : Seps) (s : List ℕ) (g : Start) → OpenAt k s g → values_of k s ≡ front_of s g (length s)
-unfolding front_of body_values within
-front_whole k s g o = values_whole k s g o ∙ rw (take-length s)
-
 -- `ends_with`
-pub ends_whole : (k : Seps) (s t : List ℕ) (g h : Start) (r : Bool) → OpenAt k s g → OpenAt k t h → r ≡ ends_with (front_of s g (length s)) (front_of t h (length t)) → r ≡ ends_of k s t
+pub ends_whole : (k : Seps) (s t : List ℕ) (g h : Start) (r : Bool) → OpenAt k s g → OpenAt k t h → r ≡ ends_with (all_of s g) (all_of t h) → r ≡ ends_of k s t
 unfolding ends_of
-ends_whole k s t g h r o q e = e ∙ rw (front_whole k s g o, front_whole k t h q)
+ends_whole k s t g h r o q e = e ∙ rw (values_whole k s g o, values_whole k t h q)
 
 -- the first of a path's values is no part that is a dot
 module _ (t : List ℕ) (h : Start) (b : Begun t h) where
-  front_body : head_values t h ≡ [] → front_of t h (length t) ≡ body_values h.seps t h.at
-  unfolding front_of body_values within
-  front_body e = rw (e, take-length t)
-
-  front_head : (z : ℕ) → front_of t h z ≡ [] → head_values t h ≡ []
+  front_head : (l : List Element) → front_of t h l ≡ [] → head_values t h ≡ []
   unfolding front_of
-  front_head z e = go (head_values t h) _ e
+  front_head l e = go (head_values t h) _ e
     where
       go : (m n : List Value) → m ++ n ≡ [] → m ≡ []
       go [] n w = refl
       go (u ∷ m) n w = bad (cc)
 
-  not_first : (y z : ℕ) (v : Value) → Ahead t h y → front_of t h y ≡ front_of t h z ++ (v ∷ []) → v.kind ≡ 3 → front_of t h z ≡ [] → ⊥
-  not_first y z v w e i f =
-      let u : head_values t h ≡ [] = front_head z f in
+  not_first : (l m : List Element) (v : Value) → Ahead t h l → front_of t h l ≡ front_of t h m ++ (v ∷ []) → v.kind ≡ 3 → front_of t h m ≡ [] → ⊥
+  not_first l m v w e i f =
+      let u : head_values t h ≡ [] = front_head m f in
       let d = no_head t h.prefix h.dir (sym (head_values_lem t h) ∙ u) in
-      let c : body_values h.seps t h.at ≡ v ∷ w.rest = sym (front_body u) ∙ w.is ∙ rw (e, f) in
+      let z : all_of t h ≡ (front_of t h m ++ (v ∷ [])) ++ w.rest = w.is ∙ rw e refl in
+      let c : body_values h.seps t h.at ≡ v ∷ w.rest = rw (u, f) at z in
       omega (arith, i, rw c at (b.lead d.0 d.1))
 
   -- a lone dot does not end with a part and what stands before it
-  dot_short : (y z : ℕ) (v : Value) → Ahead t h y → front_of t h y ≡ front_of t h z ++ (v ∷ []) → v.kind ≡ 3 → ends_with (valued 3 [] ∷ []) (front_of t h z ++ (v ∷ [])) ≡ false
-  dot_short y z v w e i = ends_snoc [] (front_of t h z) (valued 3 []) v ∙ go (front_of t h z) refl
+  dot_short : (l m : List Element) (v : Value) → Ahead t h l → front_of t h l ≡ front_of t h m ++ (v ∷ []) → v.kind ≡ 3 → ends_with (valued 3 [] ∷ []) (front_of t h m ++ (v ∷ [])) ≡ false
+  dot_short l m v w e i = ends_snoc [] (front_of t h m) (valued 3 []) v ∙ go (front_of t h m) refl
     where
-      go : (l : List Value) → front_of t h z ≡ l → cond (same (valued 3 []) v) (ends_with [] (front_of t h z)) false ≡ false
-      go [] f = absurd (not_first y z v w e i f)
-      go (u ∷ l) f = rw (f, ends_none u l) (split (same (valued 3 []) v) (λ j. rw j) (λ j. rw j))
+      go : (n : List Value) → front_of t h m ≡ n → cond (same (valued 3 []) v) (ends_with [] (front_of t h m)) false ≡ false
+      go [] f = absurd (not_first l m v w e i f)
+      go (u ∷ n) f = rw (f, ends_none u n) (split (same (valued 3 []) v) (λ j. rw j) (λ j. rw j))
 
--- `walk_back`: e says what the loop has kept, q and p are the next pieces
-module _ (s : List ℕ) (g : Start) (t : List ℕ) (h : Start) (x y : ℕ) (r : Bool) (e : r ≡ ends_with (front_of s g x) (front_of t h y)) (q : Option Part) (f : LastAt (is_sep h.seps) (dots h.seps) t h.at y q) where
-  pub back_head : (c : Bool) → q ≡ None → c ≡ ends_with (front_of s g x) (head_values t h) → c ≡ r
-  back_head c n z = z ∙ sym (e ∙ rw (front_none t h y q f n))
+ne_told : (o : Ordering) (z : Bool) → z ≡ not (ordering_index o == 1) → is_equal o ≡ not z
+ne_told Less z e = rw e
+ne_told Equal z e = rw e
+ne_told Greater z e = rw e
 
-  module _ (b : Part) (n : q ≡ Some b) (p : Option Part) (k : LastAt (is_sep g.seps) (dots g.seps) s g.at x p) where
-    module _ (a : Part) (m : p ≡ Some a) (o : Ordering) (c : o ≡ cmp_value (value_of s (lift a)) (value_of t (lift b))) where
-      back_by : r ≡ cond (is_equal o) (ends_with (front_of s g a.start) (front_of t h b.start)) false
-      back_by = e ∙ rw (front_found s g x p k a m, front_found t h y q f b n) (ends_snoc (front_of s g a.start) (front_of t h b.start) (value_of s (lift a)) (value_of t (lift b)) ∙ rw c)
+-- `walk_back`: r is what it is to answer, of what is left of both
+pub back_start : (s : List ℕ) (g : Start) (l : List Element) → l ≡ from (is_sep g.seps) (dots g.seps) s g.at → all_of s g ≡ front_of s g l
+unfolding front_of body_values
+back_start s g l e = rw e refl
 
-      pub back_on : o ≡ Equal → r ≡ ends_with (front_of s g a.start) (front_of t h b.start)
-      back_on z = back_by ∙ rw z
+pub ahead_start : (t : List ℕ) (h : Start) (l : List Element) → l ≡ from (is_sep h.seps) (dots h.seps) t h.at → Ahead t h l
+ahead_start t h l e = record { rest = []; is = back_start t h l e ∙ sym (append-nil (front_of t h l)) }
 
-      pub back_off : (o ≡ Equal → ⊥) → false ≡ r
-      back_off z = sym (back_by ∙ rw (unequal o z))
+module _ (s : List ℕ) (g : Start) (t : List ℕ) (h : Start) (l m : List Element) (r : Bool) (e : r ≡ ends_with (front_of s g l) (front_of t h m)) where
+  pub back_head : (c : Bool) → m ≡ [] → c ≡ ends_with (front_of s g l) (head_values t h) → c ≡ r
+  back_head c n z = z ∙ sym (e ∙ rw (front_none t h m n))
+
+  module _ (y : List Element) (b : Part) (n : m ≡ y ++ (lift b ∷ [])) where
+    module _ (x : List Element) (a : Part) (k : l ≡ x ++ (lift a ∷ [])) (o : Ordering) (c : o ≡ cmp_value (value_of s (lift a)) (value_of t (lift b))) where
+      back_by : r ≡ cond (is_equal o) (ends_with (front_of s g x) (front_of t h y)) false
+      back_by = e ∙ rw (front_found s g l x a k, front_found t h m y b n) (ends_snoc (front_of s g x) (front_of t h y) (value_of s (lift a)) (value_of t (lift b)) ∙ rw c)
+
+      module _ (z : Bool) (d : z ≡ not (ordering_index o == 1)) where
+        pub back_on : z ≡ false → r ≡ ends_with (front_of s g x) (front_of t h y)
+        back_on w = back_by ∙ rw (ne_told o z d, w)
+
+        pub back_off : z ≡ true → false ≡ r
+        back_off w = sym (back_by ∙ rw (ne_told o z d, w))
 
     -- the first body is used up
-    pub back_short : Begun s g → Begun t h → Ahead t h y → p ≡ None → false ≡ r
-    back_short i j w m =
+    pub back_short : Begun s g → Begun t h → Ahead t h m → l ≡ [] → false ≡ r
+    back_short i j w k =
         let v = value_of t (lift b) in
-        sym (e ∙ rw (front_none s g x p k m, front_found t h y q f b n, head_values_lem s g)
+        sym (e ∙ rw (front_none s g l k, front_found t h m y b n, head_values_lem s g)
         (split (eqb (dir_rank g.dir) (value_of t (lift b)).kind)
         (λ z. let u : dir_rank g.dir ≡ v.kind = eqb-true (dir_rank g.dir) v.kind z in
         let c = rank_step g.dir (λ (a : dir_rank g.dir ≡ 0). absurd (omega (arith, a, u, part_kind t b))) in
-        let l : dir_rank g.dir ≡ 3 = omega (arith, u, c.1, part_kind t b) in
-        let d = rank_dot g.dir l in
-        rw (i.alone d, l, dirs_some 3 (λ (a : ◌≡◌ {A = ℕ} 3 0). absurd (omega (arith, a)))) (dot_short t h j y b.start (value_of t (lift b)) w (front_found t h y q f b n) (sym u ∙ l)))
-        (λ z. head_apart s g.prefix g.dir (front_of t h b.start) (value_of t (lift b)) (eqb-false (dir_rank g.dir) (value_of t (lift b)).kind z) (omega (arith, part_kind t b)))))
+        let q : dir_rank g.dir ≡ 3 = omega (arith, u, c.1, part_kind t b) in
+        let d = rank_dot g.dir q in
+        rw (i.alone d, q, dirs_some 3 (λ (a : ◌≡◌ {A = ℕ} 3 0). absurd (omega (arith, a)))) (dot_short t h j m y (value_of t (lift b)) w (front_found t h m y b n) (sym u ∙ q)))
+        (λ z. head_apart s g.prefix g.dir (front_of t h y) (value_of t (lift b)) (eqb-false (dir_rank g.dir) (value_of t (lift b)).kind z) (omega (arith, part_kind t b)))))
 
-  pub ahead_on : (b : Part) → q ≡ Some b → Ahead t h y → Ahead t h b.start
-  ahead_on b n w = record { rest = value_of t (lift b) ∷ w.rest; is = w.is ∙ rw (front_found t h y q f b n) (append_assoc (front_of t h b.start) (value_of t (lift b) ∷ []) w.rest) }
+    pub ahead_on : Ahead t h m → Ahead t h y
+    ahead_on w = record { rest = value_of t (lift b) ∷ w.rest; is = w.is ∙ rw (front_found t h m y b n) (append_assoc (front_of t h y) (value_of t (lift b) ∷ []) w.rest) }
 
-pub ahead_start : (t : List ℕ) (h : Start) → Ahead t h (length t)
-ahead_start t h = record { rest = []; is = sym (append-nil (front_of t h (length t))) }
-
--- a part that `last` found lies in the path
-pub part_inside : (sep : ℕ → Bool) (v : Bool) (s : List ℕ) (lo hi : ℕ) (p : Option Part) (z : Part) → LastAt sep v s lo hi p → p ≡ Some z → z.start + z.len ≤ length s
-part_inside sep v s lo hi p z f n = let t = last_found f n in omega (arith, t.high, t.inside)
-
-pub ruleset backs = (part_inside, end_heads, end_dot, end_bare, end_root, begun, ends_whole, back_head, back_on, back_off, back_short, ahead_on, ahead_start)
+pub ruleset backs = (end_heads, end_dot, end_bare, end_root, begun, ends_whole, back_start, ahead_start, back_head, back_on, back_off, back_short, ahead_on)

@@ -1,5 +1,5 @@
 -- Laws of starts, ends and strip: one a way through each function, and what they rest on.
-use Rattle.std.specs.Prelude.{ℕ, suc, ◌+◌, ◌≤◌, Bool, cond, drop, eqb, Option, Some, None}
+use Rattle.std.specs.Prelude.{ℕ, suc, ◌+◌, ◌≤◌, Bool, drop, eqb, Option, Some, None}
 use native.Mathlib.Omega.{arith}
 use Rattle.std.proofs.Math.Path.{◌≡◌, refl, sym, ap}
 use Rattle.std.proofs.Common.{◌∙◌}
@@ -17,11 +17,8 @@ use Rattle.prefixes.specs.Prefix.{figures_of, parsed_figures}
 use Rattle.parts.specs.declared.Component.{Component}
 use Rattle.parts.specs.declared.Component.TheVariants.{Prefix as Prefixed, RootDir, CurDir, ParentDir, Normal}
 use Rattle.parts.specs.declared.Element.{Element}
-use Rattle.parts.specs.declared.Part.{Part}
 use Rattle.parts.specs.Body.{dots, from}
 use Rattle.parts.specs.Elements.{nth_of}
-use Rattle.parts.specs.Steps.{lift, FirstAt}
-use Rattle.parts.specs.Laws.{first_none, first_found}
 use Rattle.components.specs.declared.Dir.{Dir}
 use Rattle.components.specs.declared.Dir.TheVariants.{Bare, Root, Implied, Dot}
 use Rattle.components.specs.declared.Start.{Start}
@@ -39,10 +36,10 @@ use Rattle.order.proofs.Ordered.{each}
 use Rattle.order.specs.Leaves.{dir_rank, dir_values, head_values, body_values, is_nil, meet_then, meet, meet_lone, SkipAt}
 use Rattle.order.proofs.HeadLaws.{values_whole, body_kind, head_values_lem, no_head, whole_same, whole_apart, whole_first_end, whole_first_more, whole_second_end, whole_second_more}
 use Rattle.order.specs.Leaves.{lead_kind, prefix_values}
-use Rattle.order.proofs.Laws.{values_none, values_found, heads_bare, heads_second, heads_first, heads_both, skip_meets}
+use Rattle.order.proofs.Laws.{heads_bare, heads_second, heads_first, heads_both, skip_meets}
 use Rattle.matches.specs.declared.After.{After}
 use Rattle.matches.specs.declared.After.TheVariants.{Off, Head, Body}
-use Rattle.matches.specs.Match.{is_equal, starts_with, starts_of}
+use Rattle.matches.specs.Match.{starts_with, starts_of}
 use Rattle.matches.specs.Leaves.{is_base, starts_body, left_body, Behind, BehindAt, lonely, head_start, AtHead, InBody, AfterAt}
 
 pub bad : {A : Type 0} → ◌≡◌ {A = ℕ} 0 1 → A
@@ -55,38 +52,6 @@ starts_meet [] [] = refl
 starts_meet [] (v ∷ m) = refl
 starts_meet (u ∷ l) [] = refl
 starts_meet (u ∷ l) (v ∷ m) = each (cmp_value u v) (λ x. rw x) (λ x. rw x (starts_meet l m)) (λ x. rw x)
-
-pub unequal : (o : Ordering) → (o ≡ Equal → ⊥) → is_equal o ≡ false
-unequal Less n = refl
-unequal Equal n = absurd (n refl)
-unequal Greater n = refl
-
--- `walk`: e and d say what the loop has kept, q and p are the next pieces
-module _ (k h : Seps) (s t : List ℕ) (i j x y : ℕ) (e : starts_body k s i h t j ≡ starts_body k s x h t y) (q : Option Part) (g : FirstAt (is_sep h) (dots h) t y q) where
-  pub walk_end : left_body k s i h t j ≡ left_body k s x h t y → q ≡ None → BehindAt k s i h t j (Body x)
-  unfolding starts_body left_body starts_with
-  walk_end d b = record { says = record { starts = e ∙ rw (values_none h t y q g b); left = d ∙ rw (first_none g b) } }
-
-  module _ (n : Part) (b : q ≡ Some n) (p : Option Part) (f : FirstAt (is_sep k) (dots k) s x p) where
-    pub walk_short : p ≡ None → BehindAt k s i h t j Off
-    unfolding starts_body starts_with
-    walk_short a = record { says = e ∙ rw (values_none k s x p f a, values_found h t y q g n b) }
-
-    module _ (m : Part) (a : p ≡ Some m) where
-      pub walk_left : left_body k s i h t j ≡ left_body k s x h t y → left_body k s i h t j ≡ left_body k s (m.start + m.len + 1) h t (n.start + n.len + 1)
-      unfolding left_body
-      walk_left d = d ∙ rw ((first_found f a).is, (first_found g b).is)
-
-      module _ (o : Ordering) (c : o ≡ cmp_value (value_of s (lift m)) (value_of t (lift n))) where
-        walk_by : starts_body k s i h t j ≡ cond (is_equal o) (starts_body k s (m.start + m.len + 1) h t (n.start + n.len + 1)) false
-        unfolding starts_body starts_with
-        walk_by = e ∙ rw (values_found k s x p f m a, values_found h t y q g n b, c)
-
-        pub walk_on : o ≡ Equal → starts_body k s i h t j ≡ starts_body k s (m.start + m.len + 1) h t (n.start + n.len + 1)
-        walk_on d = walk_by ∙ rw d
-
-        pub walk_off : (o ≡ Equal → ⊥) → BehindAt k s i h t j Off
-        walk_off d = record { says = walk_by ∙ rw (unequal o d) }
 
 -- `follow_bodies`
 module _ (k : Seps) (s : List ℕ) (i : ℕ) (h : Seps) (t : List ℕ) (j : ℕ) (x : i ≤ length s) (y : j ≤ length t) (n : ℕ) (m : SkipAt k s i h t j n) where
@@ -103,7 +68,7 @@ module _ (k : Seps) (s : List ℕ) (i : ℕ) (h : Seps) (t : List ℕ) (j : ℕ)
   skip_behind (Head z) b = absurd b.says
   skip_behind (Body z) b = record { says = record { starts = skip_starts ∙ b.says.starts; left = skip_left ∙ b.says.left } }
 
-pub ruleset pieces = (walk_end, walk_short, walk_left, walk_on, walk_off, skip_behind)
+pub ruleset pieces = (skip_behind)
 
 -- ---- heads
 pub by_prefix : {A : Type 0} (p : Option Prefix) → (p ≡ None → A) → ((x : Prefix) → p ≡ Some x → A) → A

@@ -9,7 +9,6 @@ use Rattle.parts.specs.declared.Kind.{Kind}
 use Rattle.parts.specs.declared.Kind.TheVariants.{Dot, DotDot, Name}
 use Rattle.parts.specs.Body.{dots, from}
 use Rattle.parts.specs.Elements.{nth_of, nth_back_of, end_or, Upto}
-use Rattle.parts.specs.Steps.{within}
 use Rattle.components.specs.declared.Dir.TheVariants.{Bare, Dot as Here}
 use Rattle.components.specs.declared.Start.{Start}
 use Rattle.components.specs.List.{list_of}
@@ -108,11 +107,15 @@ abbrev pub same_prefix : List ℕ → List ℕ → Option Prefix → Option Pref
 same_prefix s t None q = false
 same_prefix s t (Some p) q = same (prefix_value s (parsed_figures (Some p))) (prefix_value t (parsed_figures q))
 
--- the values of s before place x, behind the head g
-unfoldable pub front_of : List ℕ → Start → ℕ → List Value
-front_of s g x = head_values s g ++ values_in s (within (is_sep g.seps) (dots g.seps) s g.at x)
+-- the values of the head g of s, and of what is left of its body, l
+unfoldable pub front_of : List ℕ → Start → List Element → List Value
+front_of s g l = head_values s g ++ values_in s l
 
--- the values before x are the first of those of the whole path
-pub record Ahead (s : List ℕ) (g : Start) (x : ℕ) : Type 0 where
+-- the values of a whole path, behind whose head g its body stands
+abbrev pub all_of : List ℕ → Start → List Value
+all_of s g = head_values s g ++ body_values g.seps s g.at
+
+-- what is left are the first values of the path
+pub record Ahead (s : List ℕ) (g : Start) (l : List Element) : Type 0 where
   pub rest : List Value
-  pub is : front_of s g (length s) ≡ front_of s g x ++ rest
+  pub is : all_of s g ≡ front_of s g l ++ rest

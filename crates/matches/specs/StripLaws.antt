@@ -1,5 +1,5 @@
 -- Laws of strip: where a path's list ends, the rest behind a base, and one law a way through each function.
-use Rattle.std.specs.Prelude.{ℕ, zero, suc, ◌+◌, ◌-◌, ◌*◌, ◌^◌, ◌<◌, ◌≤◌, ◌≡◌, refl, List, [], ◌∷◌, ◌++◌, Bool, take, drop, eqb, ltb, Option, Some, None}
+use Rattle.std.specs.Prelude.{ℕ, zero, suc, ◌+◌, ◌-◌, ◌≤◌, ◌≡◌, refl, List, [], ◌∷◌, ◌++◌, Bool, take, drop, eqb, ltb, Option, Some, None}
 use Rattle.std.specs.Int.{w64}
 use Rattle.std.proofs.Common.{Fits, ap, ◌∙◌, append-nil, append_assoc, length-append, length-drop}
 use native.Mathlib.Omega.{arith}
@@ -121,11 +121,11 @@ module _ (k : Seps) (s : List ℕ) (g : Start) (o : OpenAt k s g) where
       bare_upto r h = rw bare_list (upto_more g.at r (head_list g) h head_upto)
 
       module _ (b : Bool) (x : b ≡ dotted g s) where
-        pub last_plain : b ≡ false → LastEnd k s g g.at
+        last_plain : b ≡ false → LastEnd k s g g.at
         unfolding last_of
         last_plain y = record { is = rw (← x, y, bare_list) (sym head_last); low = omega arith; all = bare_upto g.at (omega arith) }
 
-        pub last_dot_lem : b ≡ true → LastEnd k s g (g.at + 1)
+        last_dot_lem : b ≡ true → LastEnd k s g (g.at + 1)
         unfolding last_of head_list nth_of
         last_dot_lem y =
             let d : dotted g s ≡ true = sym x ∙ y in
@@ -134,8 +134,12 @@ module _ (k : Seps) (s : List ℕ) (g : Start) (o : OpenAt k s g) where
             dotted_prefix s g d
             (λ q u. record { is = rw (d, bare_list, u, v) (omega arith); low = omega arith; all = bare_upto (g.at + 1) (omega arith) })
 
-    pub dot_fits : length s * 1 < 2 ^ 63 → Fits w64 (g.at + 1)
-    dot_fits w = record { fits = omega (arith, o.high) }
+      -- as `head_end` tells it
+      pub last_bare : (r : ℕ) → r ≡ g.at + cond (dotted g s) 1 0 → LastEnd k s g r
+      last_bare r e =
+          split (dotted g s)
+          (λ y. let z : r ≡ g.at + 1 = e ∙ rw y in rw z (last_dot_lem (dotted g s) refl y))
+          (λ y. let z : r ≡ g.at = e ∙ rw y (omega arith) in rw z (last_plain (dotted g s) refl y))
 
     module _ (z : Part) (n : p ≡ Some z) where
       -- what stands before the last part
@@ -182,7 +186,7 @@ module _ (k : Seps) (s : List ℕ) (g : Start) (o : OpenAt k s g) where
       pub last_fits : Fits w64 (z.start + z.len)
       last_fits = let t = last_found f n in record { fits = omega arith }
 
-pub ruleset lasts = (last_plain, last_dot_lem, dot_fits, last_found_end, last_fits)
+pub ruleset lasts = (last_bare, last_found_end, last_fits)
 
 -- ---- the rest after f elements of l
 nth_drop : (l : List Element) (f : ℕ) → nth_of l f ≡ nth_of (drop f l) 0

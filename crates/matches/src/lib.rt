@@ -1,23 +1,24 @@
 // Whether a path starts or ends with another, by components, and what remains of it behind the other. Each call is one walk
-// over both paths by places: heads first and then bodies, or for the end bodies first and from the back.
-#![tactic(auto, using(crate::specs::EndLaws::backs, crate::specs::EndLaws::endings, crate::specs::Laws::follows, crate::specs::Laws::pieces, crate::specs::StripLaws::lasts, crate::specs::StripLaws::strips, order::proofs::Laws::headings, parts::specs::Laws::walks))]
+// over both paths: heads first and then bodies, or for the end bodies first and from the back.
+#![tactic(auto, using(crate::specs::EndLaws::backs, crate::specs::EndLaws::endings, crate::specs::Laws::follows, crate::specs::Laws::pieces, crate::specs::StripLaws::lasts, crate::specs::StripLaws::strips, order::proofs::Laws::headings))]
 
 ghost use Rattle.std.specs.Prelude.{◌≡◌, ◌+◌, ◌≤◌, length};
 ghost use Rattle.prefixes.specs.Prefix.{parsed_figures};
 ghost use Rattle.prefixes.specs.Leaves.{NamesIn};
+ghost use Rattle.parts.specs.Steps.{parts_left};
 ghost use Rattle.components.specs.Leaves.{OpenAt};
 ghost use Rattle.answers.specs.Reply.{refused_view};
 ghost use Rattle.answers.specs.Outcome.{told};
 ghost use Rattle.order.specs.Leaves.{head_values};
 ghost use Rattle.matches.specs.Match.{is_equal, starts_of, ends_with, ends_of};
 ghost use Rattle.matches.specs.Strip.{strip_of};
-ghost use Rattle.matches.specs.Leaves.{is_dot, head_start, lonely, BehindAt, AfterAt, LastEnd, Begun, front_of, same_prefix};
+ghost use Rattle.matches.specs.Leaves.{is_dot, head_start, lonely, BehindAt, AfterAt, LastEnd, Begun, all_of, front_of, same_prefix};
 
 use answers::{Reply, View};
-use components::Start;
+use components::{Opened, Start};
 use octets::Seps;
 use order::Heads;
-use parts::Kind;
+use parts::{Kind, Parts};
 use prefixes::Prefix;
 use std::cmp::Ordering;
 
@@ -31,22 +32,20 @@ pub enum After {
 }
 
 // Whether the parts of s from i on start with those of t from j on, and where they go on behind them.
+#[tactic(auto, using(parts::specs::Runs::turns), unfolding(crate::specs::Leaves::left_body, crate::specs::Leaves::starts_body, crate::specs::Match::starts_with, order::specs::Leaves::body_values, order::specs::Values::values_in))]
 fn walk(k: Seps, s: &[u8], i: usize, h: Seps, t: &[u8], j: usize) -> After
     ensures { BehindAt k s.now i h t.now j result }
 {
     let mut x = i;
-    let mut y = j;
-    while let Some(b) = parts::first(h, t, y) {
-        let Some(a) = parts::first(k, s, x) else {
+    let mut ours = Parts::new(k, s, i);
+    for b in Parts::new(h, t, j) {
+        let Some(a) = ours.next() else {
             return After::Off;
         };
-        match order::cmp_part(s, a, t, b) {
-            Ordering::Equal => {
-                x = a.start + a.len + 1;
-                y = b.start + b.len + 1;
-            }
-            _ => return After::Off,
+        if order::cmp_part(s, a, t, b) != Ordering::Equal {
+            return After::Off;
         }
+        x = a.start + a.len + 1;
     }
     After::Body(x)
 }
@@ -75,15 +74,15 @@ fn is_lone(h: Start, t: &[u8]) -> bool
     order::dir_rank(h.dir) == 0 && order::is_bare(h, t)
 }
 
-// What t leaves of s, whose head is g.
-fn follow(k: Seps, s: &[u8], g: Start, t: &[u8]) -> After
-    requires { OpenAt k s.now g }
-    ensures { AfterAt k s.now g t.now result }
+// What t leaves of the path o.
+fn follow(o: &Opened<'_>, t: &[u8]) -> After
+    ensures { AfterAt o.now.seps o.now.path.now o.now.start t.now result }
 {
-    let h = components::begin(k, t);
-    match order::meet_heads(s, g, t, h) {
+    let g = o.start;
+    let h = components::begin(o.seps, t);
+    match order::meet_heads(o.path, g, t, h) {
         Heads::Same if is_lone(h, t) => After::Head(head_start(h.prefix, g.end)),
-        Heads::Same => follow_bodies(s, g, t, h),
+        Heads::Same => follow_bodies(o.path, g, t, h),
         Heads::First if is_lone(h, t) => After::Head(head_start(h.prefix, g.end)),
         _ => After::Off,
     }
@@ -92,21 +91,15 @@ fn follow(k: Seps, s: &[u8], g: Start, t: &[u8]) -> After
 pub fn starts_with(k: Seps, s: &[u8], t: &[u8]) -> bool
     ensures { result ≡ starts_of k s.now t.now }
 {
-    !matches!(follow(k, s, components::begin(k, s), t), After::Off)
+    !matches!(follow(&Opened::new(k, s), t), After::Off)
 }
 
-// Where the last component of s, whose head is g, ends; or behind a dot that belongs to none: `C:.`.
-fn last_end(k: Seps, s: &[u8], g: Start) -> usize
-    requires { OpenAt k s.now g }
-    ensures { LastEnd k s.now g result }
+// Where the last component of the path o ends; or behind a dot that belongs to none: `C:.`.
+fn last_end(o: &Opened<'_>) -> usize
+    ensures { LastEnd o.now.seps o.now.path.now o.now.start result }
 {
-    match parts::last(g.seps, s, g.at, s.len()) {
-        None => {
-            if cursors::is_dotted(g, s) {
-                return g.at + 1;
-            }
-            g.at
-        }
+    match parts::last(o.start.seps, o.path, o.start.at, o.path.len()) {
+        None => cursors::head_end(o),
         Some(q) => q.start + q.len,
     }
 }
@@ -115,17 +108,17 @@ fn last_end(k: Seps, s: &[u8], g: Start) -> usize
 pub fn strip_prefix(k: Seps, s: &[u8], t: &[u8]) -> View
     ensures { result ≡ told refused_view (strip_of k s.now t.now) }
 {
-    let g = components::begin(k, s);
-    match follow(k, s, g, t) {
+    let o = Opened::new(k, s);
+    match follow(&o, t) {
         After::Off => View::from(Reply::Absent),
         After::Head(start) => View {
             reply: Reply::Done,
             start,
-            len: last_end(k, s, g) - start,
+            len: last_end(&o) - start,
         },
         After::Body(x) => {
-            let e = last_end(k, s, g);
-            match parts::first(g.seps, s, x) {
+            let e = last_end(&o);
+            match parts::first(o.start.seps, s, x) {
                 None => View {
                     reply: Reply::Done,
                     start: e,
@@ -173,12 +166,13 @@ fn ends_heads(s: &[u8], g: Start, t: &[u8], h: Start) -> bool
     e == 0 || c == e
 }
 
-// Whether s up to x, with the head g, ends with the head h of t. Of a head only a dot can be a part of a body.
-fn ends_head(s: &[u8], g: Start, x: usize, t: &[u8], h: Start) -> bool
-    requires { (x ≤ length s.now) × Begun s.now g × Begun t.now h }
-    ensures { result ≡ ends_with (front_of s.now g x) (head_values t.now h) }
+// Whether the head g of s and what is left of its body end with the head h of t. Of a head only a dot can be a part of a body.
+#[tactic(auto, using(crate::specs::EndLaws::backs, parts::specs::Runs::turns))]
+fn ends_head(s: &[u8], g: Start, mut left: Parts, t: &[u8], h: Start) -> bool
+    requires { Begun s.now g × Begun t.now h }
+    ensures { result ≡ ends_with (front_of s.now g (parts_left left.entry)) (head_values t.now h) }
 {
-    match parts::last(g.seps, s, g.at, x) {
+    match left.next_back() {
         None => ends_heads(s, g, t, h),
         Some(a) => match order::dir_rank(h.dir) {
             3 => is_dot(a.kind),
@@ -189,25 +183,21 @@ fn ends_head(s: &[u8], g: Start, x: usize, t: &[u8], h: Start) -> bool
 }
 
 // The walk from the back: whether s, with the head g, ends with t, with the head h.
+#[tactic(auto, using(crate::specs::EndLaws::backs, parts::specs::Runs::turns))]
 fn walk_back(s: &[u8], g: Start, t: &[u8], h: Start) -> bool
     requires { Begun s.now g × Begun t.now h }
-    ensures { result ≡ ends_with (front_of s.now g (length s.now)) (front_of t.now h (length t.now)) }
+    ensures { result ≡ ends_with (all_of s.now g) (all_of t.now h) }
 {
-    let mut x = s.len();
-    let mut y = t.len();
-    while let Some(b) = parts::last(h.seps, t, h.at, y) {
-        let Some(a) = parts::last(g.seps, s, g.at, x) else {
+    let mut ours = Parts::new(g.seps, s, g.at);
+    for b in Parts::new(h.seps, t, h.at).rev() {
+        let Some(a) = ours.next_back() else {
             return false;
         };
-        match order::cmp_part(s, a, t, b) {
-            Ordering::Equal => {
-                x = a.start;
-                y = b.start;
-            }
-            _ => return false,
+        if order::cmp_part(s, a, t, b) != Ordering::Equal {
+            return false;
         }
     }
-    ends_head(s, g, x, t, h)
+    ends_head(s, g, ours, t, h)
 }
 
 pub fn ends_with(k: Seps, s: &[u8], t: &[u8]) -> bool

@@ -21,6 +21,7 @@ pub fn put_prefix(a: Prefixed, answer: &mut [usize; 7]) -> usize
     usize::from(a.reply)
 }
 
+// The kinds' numbers of the protocol and of include/bridlestep.h.
 fn component_number(c: Component) -> usize
     ensures { result ≡ component_number c }
 {

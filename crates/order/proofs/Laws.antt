@@ -339,32 +339,7 @@ pub end_told : (k : Seps) (s : List ℕ) (i : ℕ) (p : Option Part) (b : Bool) 
 end_told k s i None b f e = e ∙ rw (values_none k s i None f refl)
 end_told k s i (Some m) b f e = e ∙ rw (values_found k s i (Some m) f m refl)
 
--- `walk`: r is what it is to answer, p and q the next pieces
-module _ (k h : Seps) (s t : List ℕ) (x y : ℕ) (p q : Option Part) (r : Ordering) (e : r ≡ cmp_values (body_values k s x) (body_values h t y)) (f : FirstAt (is_sep k) (dots k) s x p) (g : FirstAt (is_sep h) (dots h) t y q) where
-  pub walk_end : p ≡ None → q ≡ None → Equal ≡ r
-  unfolding lexical
-  walk_end a b = sym (e ∙ rw (values_none k s x p f a, values_none h t y q g b))
-
-  pub walk_less : (n : Part) → p ≡ None → q ≡ Some n → Less ≡ r
-  unfolding lexical
-  walk_less n a b = sym (e ∙ rw (values_none k s x p f a, values_found h t y q g n b))
-
-  pub walk_more : (m : Part) → p ≡ Some m → q ≡ None → Greater ≡ r
-  unfolding lexical
-  walk_more m a b = sym (e ∙ rw (values_found k s x p f m a, values_none h t y q g b))
-
-  module _ (m n : Part) (a : p ≡ Some m) (b : q ≡ Some n) (o : Ordering) (c : o ≡ cmp_value (value_of s (lift m)) (value_of t (lift n))) where
-    walk_by : r ≡ and_then o (cmp_values (body_values k s (m.start + m.len + 1)) (body_values h t (n.start + n.len + 1)))
-    unfolding lexical
-    walk_by = e ∙ rw (values_found k s x p f m a, values_found h t y q g n b, ← c)
-
-    pub walk_on : o ≡ Equal → r ≡ cmp_values (body_values k s (m.start + m.len + 1)) (body_values h t (n.start + n.len + 1))
-    walk_on d = walk_by ∙ rw d
-
-    pub walk_apart : (o ≡ Equal → ⊥) → o ≡ r
-    walk_apart d = sym (walk_by ∙ first_told o _ d)
-
-pub ruleset bodies = (end_told, walk_end, walk_less, walk_more, walk_on, walk_apart)
+pub ruleset bodies = (end_told)
 
 -- ---- what two bodies have in common
 -- what ends before place j is told by the bytes before it

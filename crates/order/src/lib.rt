@@ -1,6 +1,6 @@
-// The order of two paths: their lists are compared element by element, heads first and then bodies, in one walk over both
-// by places. What is compared of an element is its value, kind, letter and names, never its extent.
-#![tactic(auto, using(crate::proofs::Laws::bodies, crate::proofs::Laws::headings, crate::proofs::Laws::orders, crate::proofs::Laws::skips, crate::proofs::Laws::strings, crate::proofs::Laws::values, crate::specs::Eights::eights, parts::specs::Laws::walks))]
+// The order of two paths: their lists are compared element by element, heads first and then bodies, in one walk over both.
+// What is compared of an element is its value, kind, letter and names, never its extent.
+#![tactic(auto, using(crate::proofs::Laws::bodies, crate::proofs::Laws::headings, crate::proofs::Laws::orders, crate::proofs::Laws::skips, crate::proofs::Laws::strings, crate::proofs::Laws::values, crate::specs::Eights::eights))]
 
 ghost use Rattle.std.specs.Prelude.{◌≡◌, ◌+◌, ◌<◌, ◌≤◌, length, take};
 ghost use Rattle.std.specs.Int.{to_le_bytes, w64};
@@ -15,7 +15,7 @@ ghost use Rattle.order.specs.Leaves.{Differ, rank_of, dir_rank, dir_values, head
 
 use components::{Dir, Start};
 use octets::Seps;
-use parts::{Kind, Part};
+use parts::{Kind, Part, Parts};
 use prefixes::Figures;
 use std::cmp::Ordering;
 
@@ -28,7 +28,7 @@ pub enum Heads {
     Second,
 }
 
-// An order as a number, from 0: the first path comes first, both are equal, the second comes first.
+// An order as a number, from 0: the first path comes first, both are equal, the second comes first. The C interface has these.
 pub fn number(o: Ordering) -> usize
     ensures { result ≡ order_number o }
 {
@@ -102,7 +102,7 @@ fn cmp_name(s: &[u8], i: usize, n: usize, t: &[u8], j: usize, m: usize) -> Order
     cmp_bytes(&s[i..i + n], &t[j..j + m])
 }
 
-// A part's kind in the order of kinds.
+// A part's kind in the order of kinds. A number and no derived order: `Kind` and `Dir` share one order of kinds.
 fn rank(k: Kind) -> usize
     ensures { result ≡ rank_of k }
 {
@@ -222,29 +222,27 @@ pub fn is_bare(g: Start, s: &[u8]) -> bool
 }
 
 // The order of the parts of s from i on and those of t from j on.
-#[tactic(auto, using(crate::proofs::Laws::bodies, parts::specs::Laws::walks))]
+#[tactic(auto, using(parts::specs::Runs::turns), unfolding(crate::specs::Leaves::body_values, crate::specs::Order::lexical, crate::specs::Values::values_in))]
 fn walk(k: Seps, s: &[u8], i: usize, h: Seps, t: &[u8], j: usize) -> Ordering
     ensures { result ≡ cmp_values (body_values k s.now i) (body_values h t.now j) }
 {
-    let mut x = i;
-    let mut y = j;
+    let mut ours = Parts::new(k, s, i);
+    let mut theirs = Parts::new(h, t, j);
     loop {
-        match (parts::first(k, s, x), parts::first(h, t, y)) {
+        match (ours.next(), theirs.next()) {
             (None, None) => return Ordering::Equal,
             (None, Some(_)) => return Ordering::Less,
             (Some(_), None) => return Ordering::Greater,
             (Some(a), Some(b)) => match cmp_part(s, a, t, b) {
-                Ordering::Equal => {
-                    x = a.start + a.len + 1;
-                    y = b.start + b.len + 1;
-                }
+                Ordering::Equal => {}
                 o => return o,
             },
         }
     }
 }
 
-// Behind the last separator between lo and hi; lo where there is none.
+// Behind the last separator between lo and hi; lo where there is none. What `parts` looks for back is a segment, between places
+// that are in order; these need not be.
 fn seam(k: Seps, s: &[u8], lo: usize, hi: usize) -> usize
     requires { hi ≤ length s.now }
     ensures { SeamAt (is_sep k) s.now lo hi result }

@@ -45,6 +45,7 @@ pub struct Part {
     pub len: usize,
 }
 
+// No From<Kind>: docs/READING.md names it as the place where a component is made.
 pub fn component_of(k: Kind) -> Component
     ensures { result ≡ component_of k }
 {
@@ -223,7 +224,8 @@ pub fn last(k: Seps, s: &[u8], lo: usize, hi: usize) -> Option<Part>
     Parts::new(k, &s[..hi], lo).next_back()
 }
 
-// `b` parts back from `hi`, no farther than `lo`: the part there, or how many of the `b` are left to go.
+// `b` parts back from `hi`, no farther than `lo`: the part there, or how many of the `b` are left to go, which `nth_back` does
+// not tell.
 pub fn walk_back(k: Seps, s: &[u8], lo: usize, hi: usize, b: usize) -> Result<Part, usize>
     requires { hi ≤ length s.now }
     ensures { BackAt (within (is_sep k) (dots k) s.now lo hi) b result }

@@ -1,4 +1,5 @@
-// The guards in front of every public call: a mode that is one, and inputs that are not too long. Each stands here once.
+// The guards in front of every public call: a mode that is one, and inputs that are not too long. Each stands here once. What a
+// call makes of a refusal (`Err(r) => View::from(r)`) stays with it: its answer has a type, or a cursor, of its own.
 #![tactic(auto, using(crate::specs::GuardLaws::guards_asked))]
 
 ghost use Rattle.std.specs.Prelude.{◌≡◌};
@@ -7,7 +8,8 @@ ghost use Rattle.paths.specs.Guards.{accepted_one, accepted_both};
 use answers::Reply;
 use octets::Seps;
 
-// What separates in a call of one path, or why it is refused.
+// What separates in a call of one path, or why it is refused. Inlined: a call of it would be most of what `has_root` takes.
+#[inline(always)]
 pub fn accept(mode: usize, path: &[u8]) -> Result<Seps, Reply>
     ensures { result ≡ accepted_one mode path.now }
 {
@@ -21,6 +23,7 @@ pub fn accept(mode: usize, path: &[u8]) -> Result<Seps, Reply>
 }
 
 // The same of a call of two inputs.
+#[inline(always)]
 pub fn accept_both(mode: usize, p: &[u8], q: &[u8]) -> Result<Seps, Reply>
     ensures { result ≡ accepted_both mode p.now q.now }
 {

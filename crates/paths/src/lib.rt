@@ -26,7 +26,7 @@ pub use tests::{has_root, is_absolute};
 pub use view::{ancestor, extension, file_name, file_stem, parent};
 pub use writes::{join, set_extension, set_file_name};
 
-// The prefix of a path, and how many bytes it takes.
+// The prefix of a path, and how many bytes it takes. No Result: a refusal has all its numbers too.
 #[derive(Clone, Copy)]
 pub struct Prefixed {
     pub reply: Reply,

@@ -13,6 +13,7 @@ use cursors::Left;
 use octets::Seps;
 use parts::{Component, Element};
 
+// The mode is a number, which may be none: by document 01 it is the calls that refuse it.
 #[derive(Clone, Copy)]
 pub struct Cursor {
     pub mode: usize,
@@ -20,7 +21,7 @@ pub struct Cursor {
     pub back: usize,
 }
 
-// One step: the component with its extent, and the cursor handed back.
+// One step: the component with its extent, and the cursor handed back. No Result: a refusal has all its numbers too.
 #[derive(Clone, Copy)]
 pub struct Stepped {
     pub reply: Reply,
@@ -43,6 +44,7 @@ fn refuse_step(c: Cursor, r: Reply) -> Stepped
 }
 
 // The element of a step that is Done, and the cursor behind it.
+#[inline(always)]
 fn took(i: Option<Element>, d: Cursor) -> Stepped
     ensures { result ≡ took_at i d }
 {
@@ -59,7 +61,9 @@ fn took(i: Option<Element>, d: Cursor) -> Stepped
 }
 
 // A step that looks for the element i of a path's list, and hands back the cursor d. Where none was taken at the other end
-// (`alone`), finding it is all there is to do; else the elements are counted.
+// (`alone`), finding it is all there is to do; else the elements are counted. Inlined, since its answer and its cursors go through
+// memory.
+#[inline(always)]
 fn step(k: Seps, path: &[u8], c: Cursor, alone: bool, i: Option<Element>, d: Cursor) -> Stepped
     requires { IsTrue (alone && is_some i) → c.front + c.back < length (list_of k path.now) }
     ensures { result ≡ told (refused_step c) (step_asked (length (list_of k path.now)) c i d) }

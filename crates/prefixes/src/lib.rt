@@ -256,7 +256,8 @@ pub fn on_disk(p: Option<Prefix>) -> bool
     matches!(p, Some(Prefix::Disk(_)))
 }
 
-// A prefix in numbers: its kind from 1, the capital letter, and the places of its names; zeros for what it has not.
+// A prefix in numbers: its kind from 1, the capital letter, and the places of its names; zeros for what it has not. The C
+// interface has it so, and the order of prefixes goes by the same numbers.
 #[derive(Clone, Copy)]
 pub struct Figures {
     pub kind: usize,

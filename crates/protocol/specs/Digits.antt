@@ -13,6 +13,10 @@ abbrev pub Digit : ℕ → Option ℕ → Type 0
 Digit b None = digit_of b ≡ 16
 Digit b (Some d) = (d ≡ digit_of b) × (d < 16)
 
+-- the digit that stands for a number below 16
+unfoldable pub glyph_of : ℕ → ℕ
+glyph_of d = cond (ltb d 10) (48 + d) (87 + d)
+
 -- all of them decimal digits
 unfoldable pub decimal : List ℕ → Bool
 decimal [] = true

@@ -1,6 +1,6 @@
 // Numbers and bytes as a request writes them: decimal digits, and pairs of hex digits.
-ghost use Rattle.std.specs.Prelude.{◌≡◌, ◌≤◌, length};
-ghost use Rattle.protocol.specs.Digits.{Digit, number_in, bytes_in, pairs_of, Decoded};
+ghost use Rattle.std.specs.Prelude.{◌≡◌, ◌<◌, ◌≤◌, length};
+ghost use Rattle.protocol.specs.Digits.{Digit, glyph_of, number_in, bytes_in, pairs_of, Decoded};
 
 // What a hex digit stands for. Capitals are none.
 pub fn digit(b: u8) -> Option<usize>
@@ -12,6 +12,15 @@ pub fn digit(b: u8) -> Option<usize>
         b'a'..=b'f' => Some(usize::from(b - 87)),
         _ => None,
     }
+}
+
+// The digit that stands for d.
+#[tactic(auto, unfolding(crate::specs::Digits::glyph_of))]
+pub fn glyph(d: u8) -> u8
+    requires { d < 16 }
+    ensures { result ≡ glyph_of d }
+{
+    if d < 10 { b'0' + d } else { b'a' - 10 + d }
 }
 
 // The number that w writes in decimal.

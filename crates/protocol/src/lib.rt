@@ -9,6 +9,7 @@ mod requests;
 mod verbs;
 mod words;
 
+pub use digits::glyph;
 pub use output::Answers;
 pub use requests::{Request, read};
 pub use verbs::Verb;

@@ -3,6 +3,7 @@
 // the buffer and puts no more than it says. Which bytes it puts is tested.
 ghost use Rattle.std.specs.Prelude.{◌≡◌, ◌+◌, ◌*◌, ◌≤◌, ◌<◌, ◌↔◌, IsTrue, length};
 
+use crate::digits::glyph;
 use crate::{ANSWER, SPACE};
 use std::marker::Model;
 
@@ -26,13 +27,6 @@ impl Model for Answers {
     ghost view = { λ a. a.held };
 
     ghost invariant = { λ a. a.held ≤ SPACE };
-}
-
-// A digit, 0 to 15, as it is written.
-fn glyph(d: u8) -> u8
-    requires { d < 16 }
-{
-    if d < 10 { b'0' + d } else { b'a' - 10 + d }
 }
 
 impl Answers {

@@ -7,7 +7,8 @@ use crate::PATH;
 use crate::digits::{bytes, value_of};
 use crate::verbs::{Verb, verb_of};
 
-// A request. A number that the verb does not have is 0, a path that it does not have is empty.
+// A request. A number that the verb does not have is 0, a path that it does not have is empty: no Option, since each verb's arm
+// reads the ones that it has.
 #[derive(Clone, Copy)]
 pub struct Request<'a> {
     pub verb: Verb,

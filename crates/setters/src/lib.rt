@@ -19,7 +19,7 @@ pub fn set_file_name_in(k: Seps, p: &[u8], q: &[u8], out: &mut [u8]) -> View
     joins::join_in(k, &p[0..e], q, out)
 }
 
-// Whether a separator stands in e.
+// Whether a separator stands in e. A `for`: what `any` answers of a test that is a function's contract is not found.
 fn holds_sep(k: Seps, e: &[u8]) -> bool
     ensures { result ≡ holds (is_sep k) e.now }
 {

@@ -1,5 +1,5 @@
 -- Laws of a verbatim join: what stays of a list laid onto another, and one law a way through each function.
-use Rattle.std.specs.Prelude.{ℕ, zero, suc, ◌+◌, ◌-◌, ◌^◌, ◌<◌, ◌≤◌, ◌≡◌, refl, Bool, true, false, take, drop, Option, Some, None}
+use Rattle.std.specs.Prelude.{ℕ, zero, suc, ◌+◌, ◌-◌, ◌^◌, ◌<◌, ◌≤◌, ◌≡◌, refl, Bool, true, false, take, drop}
 use Rattle.std.specs.Int.{w64}
 use Rattle.std.proofs.Common.{Fits, add-one, sub-one, arith, sym, ◌∙◌, length-drop, length-take-le}
 use Rattle.std.proofs.Math.Path.{ap}
@@ -15,14 +15,14 @@ use Rattle.parts.specs.declared.Element.{Element}
 use Rattle.parts.specs.declared.Kind.{Kind}
 use Rattle.parts.specs.declared.Kind.TheVariants.{Dot as OneDot, DotDot, Name}
 use Rattle.parts.specs.declared.Part.{Part}
-use Rattle.parts.specs.Body.{component_of, dots}
-use Rattle.parts.specs.Steps.{lift, within, LastAt}
-use Rattle.parts.specs.Laws.{few, last_none, last_found, Bodily, Goods, from_good}
+use Rattle.parts.specs.Body.{component_of, dots, from}
+use Rattle.parts.specs.Steps.{lift, within}
+use Rattle.parts.specs.Laws.{few, Bodily, Goods, from_good}
 use Rattle.verbatim.specs.declared.Sift.{Sift}
 use Rattle.verbatim.specs.declared.Sift.TheVariants.{Keep, Drop}
 use Rattle.verbatim.specs.declared.Stretch.{Stretch}
 use Rattle.verbatim.specs.Verbatim.{Spelling, spelling_of, spellings_of, unless_normal, popped, added, laid}
-use Rattle.verbatim.specs.Leaves.{mend_of, sift_of, left_by, kept_by, owed, kept, flat, bulk, owed_at, text_at, Reading, Tallied, Counting}
+use Rattle.verbatim.specs.Leaves.{mend_of, sift_of, left_by, kept_by, owed, kept, flat, owed_of, text_of, owed_at, text_at, Reading, Tallied, Counting}
 
 -- `mend`, `sift_kind`
 module _ (k : Seps) (d : ℕ) where
@@ -175,7 +175,7 @@ unfolding owed kept
 kept_last k c [] v = refl
 kept_last k c (u ∷ l) v = rw (owed_last k c l v, kept_last k c l v, by_append)
 
--- ---- `count_kept`, `write_kept`: f is what `last` answered at place e, and o what becomes of the part x that it found
+-- ---- `count_kept`, `write_kept`: l is what is left of a stretch
 
 sift_less : (k : Seps) (m : Component) (c : ℕ) → left_by (sift_of k m c) ≤ c + 1
 sift_less k (Prefixed p) c = omega arith
@@ -189,118 +189,116 @@ sift_less OnlyBack ParentDir c = omega arith
 sift_less k Normal zero = omega arith
 sift_less k Normal (suc c) = omega arith
 
-module _ (k : Seps) (s : List ℕ) (lo e c : ℕ) (y : Option Part) (f : LastAt (is_sep k) (dots k) s lo e y) where
-  pub text_none : y ≡ None → text_at k s lo e c ≡ []
-  unfolding text_at spellings_of kept flat
-  text_none g = rw (last_none f g)
+-- m is left of l where the part x is taken off its end, and o is what becomes of x
+module _ (k : Seps) (s : List ℕ) (l : List Element) (c : ℕ) where
+  pub text_none : l ≡ [] → text_of k s l c ≡ []
+  unfolding text_of spellings_of kept flat
+  text_none g = rw g
 
-  owed_none : y ≡ None → owed_at k s lo e c ≡ c
-  unfolding owed_at spellings_of owed
-  owed_none g = rw (last_none f g)
+  pub owed_none : l ≡ [] → owed_of k s l c ≡ c
+  unfolding owed_of spellings_of owed
+  owed_none g = rw g
 
-  module _ (x : Part) (g : y ≡ Some x) where
-    bulk_step : bulk k s lo e ≡ bulk k s lo x.start + 1
-    unfolding bulk
-    bulk_step = ap length (last_found f g).is ∙ length-append (within (is_sep k) (dots k) s lo x.start) (lift x ∷ [])
+  module _ (m : List Element) (x : Part) (g : l ≡ m ++ (lift x ∷ [])) where
+    step_long : length l ≡ length m + 1
+    step_long = ap length g ∙ length-append m (lift x ∷ [])
 
-    spellings_step : spellings_of s (within (is_sep k) (dots k) s lo e) ≡ spellings_of s (within (is_sep k) (dots k) s lo x.start) ++ (spelling_of s (lift x) ∷ [])
+    spellings_step : spellings_of s l ≡ spellings_of s m ++ (spelling_of s (lift x) ∷ [])
     unfolding spellings_of
-    spellings_step = rw ((last_found f g).is, spellings_append s (within (is_sep k) (dots k) s lo x.start) (lift x ∷ []))
-
-    pub piece : length (take x.len (drop x.start s)) ≡ x.len
-    piece = let z = last_found f g in length-take-le x.len (drop x.start s) (omega (arith, length-drop x.start s))
+    spellings_step = rw (g, spellings_append s m (lift x ∷ []))
 
     module _ (o : Sift) (h : o ≡ sift_of k (component_of x.kind) c) where
-      text_step : text_at k s lo e c ≡ text_at k s lo x.start (left_by o) ++ flat (kept_by o (spelling_of s (lift x)) [])
-      unfolding text_at
+      text_step : text_of k s l c ≡ text_of k s m (left_by o) ++ flat (kept_by o (spelling_of s (lift x)) [])
+      unfolding text_of
       text_step = rw (h, spellings_step, kept_last, flat_append)
 
-      owed_step : owed_at k s lo e c ≡ owed_at k s lo x.start (left_by o)
-      unfolding owed_at
+      owed_step : owed_of k s l c ≡ owed_of k s m (left_by o)
+      unfolding owed_of
       owed_step = rw (h, spellings_step, owed_last)
 
-      pub text_keep : o ≡ Keep → text_at k s lo e c ≡ text_at k s lo x.start 0 ++ (92 ∷ take x.len (drop x.start s))
+      pub text_keep : o ≡ Keep → text_of k s l c ≡ text_of k s m 0 ++ (92 ∷ take x.len (drop x.start s))
       unfolding flat
       text_keep z = (rw z at text_step) ∙ rw append-nil
 
-      pub text_drop : (d : ℕ) → o ≡ Drop d → text_at k s lo e c ≡ text_at k s lo x.start d
+      pub text_drop : (d : ℕ) → o ≡ Drop d → text_of k s l c ≡ text_of k s m d
       unfolding flat
       text_drop d z = (rw z at text_step) ∙ append-nil _
 
       left_less : left_by o ≤ c + 1
       left_less = rw h (sift_less k (component_of x.kind) c)
 
+pub piece : (s : List ℕ) (x : Part) → x.start + x.len ≤ length s → length (take x.len (drop x.start s)) ≡ x.len
+piece s x h = length-take-le x.len (drop x.start s) (omega (arith, length-drop x.start s))
+
 -- what both loops learn of a part
-module _ (k : Seps) (s : List ℕ) (lo left e c : ℕ) (i : Reading k s lo left e c) (y : Option Part) (f : LastAt (is_sep k) (dots k) s lo e y) (x : Part) (g : y ≡ Some x) where
-  pub read_falls : bulk k s lo x.start < bulk k s lo e
-  read_falls = omega (arith, bulk_step k s lo e c y f x g)
-
-  pub read_in : x.start + x.len ≤ length s
-  read_in = let w = last_found f g in omega (arith, w.high, w.inside)
-
-  module _ (o : Sift) (h : o ≡ sift_of k (component_of x.kind) c) where
-    pub read_keep : o ≡ Keep → Reading k s lo left x.start 0
-    read_keep z = record { inside = omega (arith, read_in); small = omega (arith, i.small, read_falls) }
-
-    pub read_drop : (d : ℕ) → o ≡ Drop d → Reading k s lo left x.start d
-    read_drop d z =
-        let l = rw z at (left_less k s lo e c y f x g o h) in
-        record { inside = omega (arith, read_in); small = omega (arith, i.small, read_falls) }
-
-module _ (k : Seps) (s : List ℕ) (lo left e c : ℕ) (i : Reading k s lo left e c) where
+module _ (s : List ℕ) (left e : ℕ) (l : List Element) (c : ℕ) (i : Reading s left e l c) where
   pub read_inside : e ≤ length s
   read_inside = i.inside
 
   pub read_left : length s ≤ limit → left ≤ limit + 1 → c < 2 ^ 32
   read_left a b = omega (arith, i.small)
 
-within_few : (k : Seps) (s : List ℕ) (lo hi : ℕ) → hi ≤ length s → bulk k s lo hi ≤ hi + 1
-unfolding bulk within
+  module _ (m : List Element) (x : Part) (g : l ≡ m ++ (lift x ∷ [])) (j : ℕ) (w : j ≤ e) (k : Seps) (o : Sift) (h : o ≡ sift_of k (component_of x.kind) c) where
+    pub read_keep : o ≡ Keep → Reading s left j m 0
+    read_keep z = record { inside = omega (arith, i.inside); small = omega (arith, i.small, step_long k s l c m x g) }
+
+    pub read_drop : (d : ℕ) → o ≡ Drop d → Reading s left j m d
+    read_drop d z =
+        let q = rw z at (left_less k s l c m x g o h) in
+        record { inside = omega (arith, i.inside); small = omega (arith, i.small, step_long k s l c m x g) }
+
+within_few : (k : Seps) (s : List ℕ) (lo hi : ℕ) → hi ≤ length s → length (within (is_sep k) (dots k) s lo hi) ≤ hi + 1
+unfolding within
 within_few k s lo hi h = omega (arith, few (is_sep k) (dots k) (take hi s) lo, length-take-le hi s h)
 
-pub read_start : (k : Seps) (s : List ℕ) (lo hi left : ℕ) → hi ≤ length s → Reading k s lo left hi left
-read_start k s lo hi left h = record { inside = h; small = omega (arith, within_few k s lo hi h) }
+pub read_start : (k : Seps) (s b : List ℕ) (lo hi left : ℕ) (l : List Element) → hi ≤ length s → b ≡ take hi s → l ≡ from (is_sep k) (dots k) (take hi s) lo → Reading s left (length b) l left
+unfolding within
+read_start k s b lo hi left l h e f =
+    let z : length b ≡ hi = ap length e ∙ length-take-le hi s h in
+    record { inside = omega arith; small = omega (arith, within_few k s lo hi h, ap length f) }
 
-pub ruleset reads = (read_start, read_inside, read_left, read_in, read_keep, read_drop, read_falls)
+pub ruleset reads = (read_start, read_inside, read_left, read_keep, read_drop)
 
 -- `count_kept`
-pub count_start : (k : Seps) (s : List ℕ) (lo hi left : ℕ) → hi ≤ length s → Counting k s lo hi left hi left 0
-count_start k s lo hi left h = record { is = omega arith; owes = refl; few = omega (arith, within_few k s lo hi h) }
+pub count_start : (k : Seps) (s b : List ℕ) (t : Stretch) (l : List Element) → t.hi ≤ length s → b ≡ take t.hi s → l ≡ from (is_sep k) (dots k) (take t.hi s) t.lo → Counting k s t (length b) l t.left 0
+unfolding text_at text_of owed_at owed_of within
+count_start k s b t l h e f =
+    let z : length b ≡ t.hi = ap length e ∙ length-take-le t.hi s h in
+    record { is = rw f (omega arith); owes = rw f refl; few = omega (arith, within_few k s t.lo t.hi h, ap length f) }
 
-pub count_end : (k : Seps) (s : List ℕ) (t : Stretch) (e c n : ℕ) (y : Option Part) → Reading k s t.lo t.left e c → Counting k s t.lo t.hi t.left e c n → LastAt (is_sep k) (dots k) s t.lo e y → y ≡ None → Tallied k s t (record { len = n; left = c })
-count_end k s t e c n y i j f g =
-    record {
-      len = omega (arith, j.is, ap length (text_none k s t.lo e c y f g));
-      left = sym (owed_none k s t.lo e c y f g) ∙ j.owes;
-      few = omega (arith, j.few);
-      small = omega (arith, i.small);
-    }
+module _ (k : Seps) (s : List ℕ) (t : Stretch) (e : ℕ) (l : List Element) (c n : ℕ) (j : Counting k s t e l c n) (i : Reading s t.left e l c) where
+  pub count_end : l ≡ [] → Tallied k s t (record { len = n; left = c })
+  count_end g =
+      record {
+        len = omega (arith, j.is, ap length (text_none k s l c g));
+        left = sym (owed_none k s l c g) ∙ j.owes;
+        few = omega (arith, j.few);
+        small = omega (arith, i.small);
+      }
 
-module _ (k : Seps) (s : List ℕ) (lo hi left e c n : ℕ) (j : Counting k s lo hi left e c n) (y : Option Part) (f : LastAt (is_sep k) (dots k) s lo e y) (x : Part) (g : y ≡ Some x) where
-  module _ (o : Sift) (h : o ≡ sift_of k (component_of x.kind) c) where
-    pub count_keep : o ≡ Keep → Counting k s lo hi left x.start 0 (n + 1 + x.len)
-    count_keep z =
-        let w = last_found f g in
-        record {
-          is = omega (arith, j.is, ap length (text_keep k s lo e c y f x g o h z), length-append (text_at k s lo x.start 0) (92 ∷ take x.len (drop x.start s)), piece k s lo e c y f x g);
-          owes = sym (rw z at (owed_step k s lo e c y f x g o h)) ∙ j.owes;
-          few = omega (arith, j.few, w.high, bulk_step k s lo e c y f x g);
-        }
+  module _ (m : List Element) (x : Part) (g : l ≡ m ++ (lift x ∷ [])) (v : x.start + x.len ≤ e) where
+    module _ (d : ℕ) (w : d ≤ x.start) (o : Sift) (h : o ≡ sift_of k (component_of x.kind) c) where
+      pub count_keep : o ≡ Keep → Counting k s t d m 0 (n + 1 + x.len)
+      count_keep z =
+          record {
+            is = omega (arith, j.is, ap length (text_keep k s l c m x g o h z), length-append (text_of k s m 0) (92 ∷ take x.len (drop x.start s)), piece s x (omega (arith, i.inside)));
+            owes = sym (rw z at (owed_step k s l c m x g o h)) ∙ j.owes;
+            few = omega (arith, j.few, step_long k s l c m x g);
+          }
 
-    pub count_drop : (d : ℕ) → o ≡ Drop d → Counting k s lo hi left x.start d n
-    count_drop d z =
-        let w = last_found f g in
-        record {
-          is = omega (arith, j.is, ap length (text_drop k s lo e c y f x g o h d z));
-          owes = sym (rw z at (owed_step k s lo e c y f x g o h)) ∙ j.owes;
-          few = omega (arith, j.few, w.high, bulk_step k s lo e c y f x g);
-        }
+      pub count_drop : (q : ℕ) → o ≡ Drop q → Counting k s t d m q n
+      count_drop q z =
+          record {
+            is = omega (arith, j.is, ap length (text_drop k s l c m x g o h q z));
+            owes = sym (rw z at (owed_step k s l c m x g o h)) ∙ j.owes;
+            few = omega (arith, j.few, step_long k s l c m x g);
+          }
 
-  module _ (a : length s ≤ limit) where
-    pub count_one : Fits w64 (n + 1)
-    count_one = record { fits = omega (arith, j.few) }
+    module _ (a : length s ≤ limit) where
+      pub count_one : Fits w64 (n + 1)
+      count_one = record { fits = omega (arith, j.few, i.inside) }
 
-    pub count_len : Fits w64 (n + 1 + x.len)
-    count_len = let w = last_found f g in record { fits = omega (arith, j.few, w.high) }
+      pub count_len : Fits w64 (n + 1 + x.len)
+      count_len = record { fits = omega (arith, j.few, i.inside) }
 
 pub ruleset counts = (count_start, count_end, count_keep, count_drop, count_one, count_len)

@@ -6,6 +6,7 @@ use Rattle.octets.specs.declared.Seps.TheVariants.{Unix, Windows, Verbatim as On
 use Rattle.answers.specs.Written.{over}
 use Rattle.parts.specs.declared.Component.{Component}
 use Rattle.parts.specs.declared.Component.TheVariants.{Prefix as Prefixed, RootDir, CurDir, ParentDir, Normal}
+use Rattle.parts.specs.declared.Element.{Element}
 use Rattle.parts.specs.Body.{dots}
 use Rattle.parts.specs.Steps.{within}
 use Rattle.components.specs.declared.Dir.{Dir}
@@ -55,10 +56,7 @@ unfoldable pub flat : List Spelling → List ℕ
 flat [] = []
 flat (v ∷ l) = (92 ∷ v.bytes) ++ flat l
 
--- the parts of s from lo to hi, of which c names are to go: how many there are, what is to go before them, and the bytes that stay
-unfoldable pub bulk : Seps → List ℕ → ℕ → ℕ → ℕ
-bulk k s lo hi = length (within (is_sep k) (dots k) s lo hi)
-
+-- the parts of s from lo to hi, of which c names are to go: what is to go before them, and the bytes that stay
 unfoldable pub owed_at : Seps → List ℕ → ℕ → ℕ → ℕ → ℕ
 owed_at k s lo hi c = owed k c (spellings_of s (within (is_sep k) (dots k) s lo hi))
 
@@ -68,10 +66,17 @@ text_at k s lo hi c = flat (kept k c (spellings_of s (within (is_sep k) (dots k)
 abbrev pub stretch_text : Seps → List ℕ → Stretch → List ℕ
 stretch_text k s t = text_at k s t.lo t.hi t.left
 
--- what a loop over a stretch keeps at place e, with c names to go
-pub record Reading (k : Seps) (s : List ℕ) (lo left e c : ℕ) : Type 0 where
+-- the same of a list of parts, l
+unfoldable pub owed_of : Seps → List ℕ → List Element → ℕ → ℕ
+owed_of k s l c = owed k c (spellings_of s l)
+
+unfoldable pub text_of : Seps → List ℕ → List Element → ℕ → List ℕ
+text_of k s l c = flat (kept k c (spellings_of s l))
+
+-- what a loop over a stretch keeps: in the first e bytes of s the parts l are left, with c names to go
+pub record Reading (s : List ℕ) (left e : ℕ) (l : List Element) (c : ℕ) : Type 0 where
   pub inside : e ≤ length s
-  pub small : c + bulk k s lo e ≤ left + length s + 1
+  pub small : c + length l ≤ left + length s + 1
 
 -- `count_kept`, and what its loop keeps beside, with n bytes counted
 pub record Tallied (k : Seps) (s : List ℕ) (t : Stretch) (r : Tally) : Type 0 where
@@ -80,10 +85,10 @@ pub record Tallied (k : Seps) (s : List ℕ) (t : Stretch) (r : Tally) : Type 0 
   pub few : r.len ≤ 2 * length s + 1
   pub small : r.left ≤ t.left + length s + 1
 
-pub record Counting (k : Seps) (s : List ℕ) (lo hi left e c n : ℕ) : Type 0 where
-  pub is : n + length (text_at k s lo e c) ≡ length (text_at k s lo hi left)
-  pub owes : owed_at k s lo e c ≡ owed_at k s lo hi left
-  pub few : n + e + bulk k s lo e ≤ 2 * length s + 1
+pub record Counting (k : Seps) (s : List ℕ) (t : Stretch) (e : ℕ) (l : List Element) (c n : ℕ) : Type 0 where
+  pub is : n + length (text_of k s l c) ≡ length (stretch_text k s t)
+  pub owes : owed_of k s l c ≡ owed_at k s t.lo t.hi t.left
+  pub few : n + e + length l ≤ 2 * length s + 1
 
 -- the buffer b with t in it, so that it ends at n
 unfoldable pub ending_at : ℕ → List ℕ → List ℕ → List ℕ

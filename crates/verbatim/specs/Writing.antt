@@ -1,5 +1,5 @@
 -- Laws of writing a verbatim join from the back, one a way through each function that writes.
-use Rattle.std.specs.Prelude.{ℕ, ◌+◌, ◌-◌, ◌<◌, ◌≤◌, ◌≡◌, List, [], ◌∷◌, ◌++◌, true, false, take, drop, Option, Some, None}
+use Rattle.std.specs.Prelude.{ℕ, ◌+◌, ◌-◌, ◌<◌, ◌≤◌, ◌≡◌, List, [], ◌∷◌, ◌++◌, true, false, take, drop}
 use Rattle.std.proofs.Common.{arith, sym, ap, ◌∙◌, append_assoc, length-append}
 use Rattle.std.proofs.Math.Nat.{sub-zero}
 use Rattle.std.proofs.Math.ListN.{length}
@@ -13,14 +13,15 @@ use Rattle.answers.specs.Reply.{refused_view, seen}
 use Rattle.answers.specs.Outcome.{give}
 use Rattle.answers.specs.Written.{over, Wrote}
 use Rattle.buffers.specs.Laws.{FromBack, back_none, back_push, over_over, take_over, two_pushes, no_room, filled}
+use Rattle.parts.specs.declared.Element.{Element}
 use Rattle.parts.specs.declared.Part.{Part}
-use Rattle.parts.specs.Body.{component_of, dots}
-use Rattle.parts.specs.Steps.{LastAt}
+use Rattle.parts.specs.Body.{component_of, dots, from}
+use Rattle.parts.specs.Steps.{lift, within}
 use Rattle.verbatim.specs.declared.Sift.{Sift}
 use Rattle.verbatim.specs.declared.Sift.TheVariants.{Keep, Drop}
 use Rattle.verbatim.specs.declared.Plan.{Plan}
 use Rattle.verbatim.specs.Verbatim.{verbatim_join}
-use Rattle.verbatim.specs.Leaves.{sift_of, text_at, stretch_text, ending_at, plan_text, Planned}
+use Rattle.verbatim.specs.Leaves.{sift_of, text_of, text_at, stretch_text, ending_at, plan_text, Planned}
 use Rattle.verbatim.specs.Laws.{piece, text_none, text_keep, text_drop}
 
 -- `put_part`
@@ -63,36 +64,36 @@ module _ {t b : List ℕ} {n : ℕ} where
   stands_in s = let f = s.back in omega (arith, f.before, f.room, f.long)
 
 -- `write_kept`: i says what the loop keeps beside `Reading`
-module _ (k : Seps) (s : List ℕ) (lo e c : ℕ) (t b : List ℕ) (n j : ℕ) (out : List ℕ) (i : StandsAt t b n (text_at k s lo e c) j out) where
+module _ (k : Seps) (s : List ℕ) (l : List Element) (c : ℕ) (t b : List ℕ) (n j : ℕ) (out : List ℕ) (i : StandsAt t b n (text_of k s l c) j out) where
   pub write_in : j ≤ length out
   write_in = stands_in i
 
   pub write_long : length out ≡ length b
   write_long = i.back.long
 
-  module _ (y : Option Part) (f : LastAt (is_sep k) (dots k) s lo e y) where
-    pub write_place : y ≡ None → n ≡ j + length t
-    write_place g = omega (arith, i.room, stands_at i, ap length (text_none k s lo e c y f g))
+  pub write_place : l ≡ [] → n ≡ j + length t
+  write_place g = omega (arith, i.room, stands_at i, ap length (text_none k s l c g))
 
-    pub write_end : y ≡ None → out ≡ ending_at n t b
-    write_end g = stands_all (rw (text_none k s lo e c y f g) at i)
+  pub write_end : l ≡ [] → out ≡ ending_at n t b
+  write_end g = stands_all (rw (text_none k s l c g) at i)
 
-    module _ (x : Part) (g : y ≡ Some x) (o : Sift) (h : o ≡ sift_of k (component_of x.kind) c) where
-      pub write_drop : (d : ℕ) → o ≡ Drop d → StandsAt t b n (text_at k s lo x.start d) j out
-      write_drop d z = rw (text_drop k s lo e c y f x g o h d z) at i
+  module _ (m : List Element) (x : Part) (g : l ≡ m ++ (lift x ∷ [])) (o : Sift) (h : o ≡ sift_of k (component_of x.kind) c) where
+    pub write_drop : (d : ℕ) → o ≡ Drop d → StandsAt t b n (text_of k s m d) j out
+    write_drop d z = rw (text_drop k s l c m x g o h d z) at i
 
-      module _ (z : o ≡ Keep) where
-        next : StandsAt t b n (text_at k s lo x.start 0 ++ (92 ∷ take x.len (drop x.start s))) j out
-        next = rw (text_keep k s lo e c y f x g o h z) at i
+    module _ (z : o ≡ Keep) (v : x.start + x.len ≤ length s) where
+      next : StandsAt t b n (text_of k s m 0 ++ (92 ∷ take x.len (drop x.start s))) j out
+      next = rw (text_keep k s l c m x g o h z) at i
 
-        pub write_room : x.len + 1 ≤ j
-        write_room = omega (arith, stands_at next, piece k s lo e c y f x g, length-append (text_at k s lo x.start 0) (92 ∷ take x.len (drop x.start s)))
+      pub write_room : x.len + 1 ≤ j
+      write_room = omega (arith, stands_at next, piece s x v, length-append (text_of k s m 0) (92 ∷ take x.len (drop x.start s)))
 
-        pub write_keep : (m : ℕ) (after : List ℕ) → j ≡ m + (x.len + 1) → after ≡ over (take m out ++ (92 ∷ take x.len (drop x.start s))) out → StandsAt t b n (text_at k s lo x.start 0) m after
-        write_keep m after d a = stands_push (text_at k s lo x.start 0) (92 ∷ take x.len (drop x.start s)) m next a (omega (arith, piece k s lo e c y f x g))
+      pub write_keep : (q : ℕ) (after : List ℕ) → j ≡ q + (x.len + 1) → after ≡ over (take q out ++ (92 ∷ take x.len (drop x.start s))) out → StandsAt t b n (text_of k s m 0) q after
+      write_keep q after d a = stands_push (text_of k s m 0) (92 ∷ take x.len (drop x.start s)) q next a (omega (arith, piece s x v))
 
-pub write_start : (k : Seps) (s : List ℕ) (lo hi left : ℕ) (b : List ℕ) (n : ℕ) → length (text_at k s lo hi left) ≤ n → n ≤ length b → StandsAt (text_at k s lo hi left) b n (text_at k s lo hi left) n b
-write_start k s lo hi left b n h g = stands_none h g
+pub write_start : (k : Seps) (s : List ℕ) (lo hi left : ℕ) (b : List ℕ) (n : ℕ) (l : List Element) → l ≡ from (is_sep k) (dots k) (take hi s) lo → length (text_at k s lo hi left) ≤ n → n ≤ length b → StandsAt (text_at k s lo hi left) b n (text_of k s l left) n b
+unfolding text_at text_of within
+write_start k s lo hi left b n l e h g = rw e (stands_none h g)
 
 -- `write_text`
 ending_at_lem : (n j : ℕ) (t b : List ℕ) → n ≡ j + length t → ending_at n t b ≡ over (take j b ++ t) b

@@ -15,7 +15,7 @@ ghost use Rattle.verbatim.specs.Leaves.{mend_of, sift_of, stretch_text, Tallied,
 use answers::{Reply, View};
 use components::Dir;
 use octets::Seps;
-use parts::{Kind, Part};
+use parts::{Kind, Part, Parts};
 use prefixes::Prefix;
 
 // What becomes of a part, met from the back: it stays, or it is left out, and then so many names before it are to go.
@@ -95,15 +95,14 @@ fn sift_kind(k: Seps, kind: Kind, c: usize) -> Sift
 }
 
 // What stays of a stretch.
+#[tactic(auto, using(crate::specs::Laws::counts, crate::specs::Laws::reads, parts::specs::Runs::turns))]
 fn count_kept(k: Seps, s: &[u8], t: Stretch) -> Tally
     requires { (length s.now ≤ limit) × (t.hi ≤ length s.now) × (t.left ≤ limit + 1) }
     ensures { Tallied k s.now t result }
 {
-    let mut e = t.hi;
     let mut c = t.left;
     let mut n: usize = 0;
-    while let Some(x) = parts::last(k, s, t.lo, e) {
-        e = x.start;
+    for x in Parts::new(k, &s[..t.hi], t.lo).rev() {
         match sift_kind(k, x.kind, c) {
             Sift::Keep => {
                 c = 0;
@@ -129,17 +128,17 @@ fn put_part(out: &mut [u8], k: usize, s: &[u8], x: Part) -> usize
     j
 }
 
-// What stays of a stretch, written so that it ends at n; where it starts.
+// What stays of a stretch, written so that it ends at n; where it starts. A walk for both this and `count_kept` would hand on, from
+// part to part, how many names are still to go: that is all that the two loops share.
+#[tactic(auto, using(crate::specs::Laws::reads, crate::specs::Writing::writes, parts::specs::Runs::turns))]
 fn write_kept(k: Seps, s: &[u8], t: Stretch, out: &mut [u8], n: usize) -> usize
     requires { (length s.now ≤ limit) × (t.hi ≤ length s.now) × (t.left ≤ limit + 1) × (length (stretch_text k s.now t) ≤ n) × (n ≤ length out.old) }
     ensures n_value { n ≡ result + length (stretch_text k s.now t) }
     ensures out_after { out.new ≡ ending_at n (stretch_text k s.now t) out.old }
 {
-    let mut e = t.hi;
     let mut c = t.left;
     let mut j = n;
-    while let Some(x) = parts::last(k, s, t.lo, e) {
-        e = x.start;
+    for x in Parts::new(k, &s[..t.hi], t.lo).rev() {
         match sift_kind(k, x.kind, c) {
             Sift::Keep => {
                 c = 0;

@@ -39,7 +39,8 @@ use Rattle.prefixes.specs.Cut.{prefix_cut}
 use Rattle.views.specs.Leaves.{cut_of, up_by, list_to, head_up}
 use Rattle.views.specs.Views.{climbs, rest_back, parent_of, ancestor_of}
 use Rattle.cursors.specs.Rest.{is_bare, dotted}
-use Rattle.views.specs.Laws.{climbs_few, up_on, up_rest, stays, head_alone, ends_at, alone as head-lone, dot_in_lem, parted, cut_last, whole_left, dot_same, drive_alone, kind_leaves}
+use Rattle.cursors.specs.Laws.{dot_in_lem, drive_alone}
+use Rattle.views.specs.Laws.{climbs_few, up_on, up_rest, stays, head_alone, ends_at, alone as head-lone, parted, cut_last, whole_left, dot_same, kind_leaves}
 use Rattle.prefixes.specs.declared.Prefix.{Prefix}
 
 -- ---- over lists: the ancestor one further is the parent of the list without its last n components

@@ -24,7 +24,7 @@ use Rattle.answers.specs.Reply.{refused_view, seen}
 use Rattle.answers.specs.Outcome.{Outcome, refuse, give, told, guard, present}
 use Rattle.prefixes.specs.declared.Prefix.{Prefix}
 use Rattle.prefixes.specs.declared.Prefix.TheVariants.{Verbatim, VerbatimUnc, VerbatimDisk, DeviceNs, Unc, Disk}
-use Rattle.prefixes.specs.Prefix.{prefix_in, end_of_prefix, is_disk, on_disk}
+use Rattle.prefixes.specs.Prefix.{prefix_in, end_of_prefix}
 use Rattle.parts.specs.declared.Component.{Component}
 use Rattle.parts.specs.declared.Component.TheVariants.{Prefix as Prefixed, RootDir, CurDir, ParentDir, Normal}
 use Rattle.parts.specs.declared.Element.{Element}
@@ -38,11 +38,13 @@ use Rattle.parts.specs.Laws.{last_none, last_found, back_last, back_on, back_pas
 use Rattle.components.specs.declared.Dir.{Dir}
 use Rattle.components.specs.declared.Dir.TheVariants.{Bare, Root, Implied, Dot as Lone}
 use Rattle.components.specs.declared.Start.{Start}
+use Rattle.components.specs.declared.opened.Opened.{Opened}
 use Rattle.components.specs.declared.Body.{Body as Within}
-use Rattle.components.specs.List.{sep_at, dot_at, prefix_dir, behind_prefix, dir_of, dir_len, start_of, prefix_part, dir_part, head_list, body_list, whole_of, list_of}
+use Rattle.components.specs.List.{sep_at, prefix_dir, behind_prefix, dir_of, dir_len, start_of, prefix_part, dir_part, head_list, body_list, whole_of, list_of}
 use Rattle.components.specs.Leaves.{OpenAt, BodyAt}
-use Rattle.components.specs.Laws.{dot_inside, whole_list, open_start, last_begun}
-use Rattle.cursors.specs.Rest.{view_of, span, is_bare, dotted, behind_dot, left_end, empty_at, rest_of}
+use Rattle.components.specs.Laws.{whole_list, open_start, last_begun}
+use Rattle.cursors.specs.Laws.{drive_alone}
+use Rattle.cursors.specs.Rest.{view_of, span, dotted, behind_dot, left_end, empty_at, rest_of}
 use Rattle.views.specs.Views.{leaves_kind, leaves, climbs, rest_back, parent_of, ancestor_of, is_normal, if_normal, last_name, has_dot, last_dot, of_name, whole_seen, stem_seen, extension_seen}
 use Rattle.views.specs.Leaves.{cut_of, up_by, ViewAt, CutAt, list_to, head_up, NameAt, BaseAt, dot_in, DotAt, StemAt}
 
@@ -238,14 +240,6 @@ head_last (Some p) Root = refl
 head_last (Some p) Implied = refl
 head_last (Some p) Lone = refl
 
--- a dot behind a drive: the prefix stands alone in the head
-pub drive_alone : (k : Seps) (s : List ℕ) (p : Option Prefix) (d : Dir) (e : ℕ) → cond (on_disk p) (cond (is_bare d) (dot_at k s e) false) false ≡ true → (length (prefix_part p e ++ dir_part d e) ≡ 1) × (dir_len d ≡ 0) × (dot_at k s e ≡ true)
-drive_alone k s None d e h = absurd (false≢true h)
-drive_alone k s (Some p) Bare e h = split (is_disk p) (λ t. (refl, refl, rw t at h)) (λ t. absurd (false≢true (rw t at h)))
-drive_alone k s (Some p) Root e h = split (is_disk p) (λ t. absurd (false≢true (rw t at h))) (λ t. absurd (false≢true (rw t at h)))
-drive_alone k s (Some p) Implied e h = split (is_disk p) (λ t. absurd (false≢true (rw t at h))) (λ t. absurd (false≢true (rw t at h)))
-drive_alone k s (Some p) Lone e h = split (is_disk p) (λ t. absurd (false≢true (rw t at h))) (λ t. absurd (false≢true (rw t at h)))
-
 module _ (k : Seps) (s : List ℕ) (h : Start) (o : OpenAt k s h) where
   pub ends_at : end_or (nth_back_of (head_list h) 0) ≡ h.at
   unfolding head_list start_of
@@ -255,24 +249,9 @@ module _ (k : Seps) (s : List ℕ) (h : Start) (o : OpenAt k s h) where
   unfolding head_list dotted
   alone y = (drive_alone h.seps s h.prefix h.dir h.end y).0
 
-  pub dot_in_lem : dotted h s ≡ true → h.at + 1 ≤ length s
-  unfolding dotted start_of
-  dot_in_lem y =
-      let a = drive_alone h.seps s h.prefix h.dir h.end y in
-      let b : h.at ≡ h.end + dir_len h.dir = rw o.is in
-      omega (arith, dot_inside h.seps s h.end a.2)
-
-  module _ (b : Bool) (e : b ≡ dotted h s) where
-    pub head_fits : b ≡ true → length s * 1 < 2 ^ 63 → Fits w64 (h.at + 1)
-    head_fits y w = record { fits = omega (arith, dot_in_lem (sym e ∙ y)) }
-
-    pub head_dot : b ≡ true → CutAt (dotted h s) (head_list h) s (h.at + 1)
-    unfolding cut_of
-    head_dot y = record { is = rw (ends_at, alone (sym e ∙ y), ← e, y); inside = dot_in_lem (sym e ∙ y) }
-
-    pub head_plain : b ≡ false → CutAt (dotted h s) (head_list h) s h.at
-    unfolding cut_of
-    head_plain n = record { is = rw (ends_at, ← e, n) (omega arith); inside = o.high }
+  pub head_cut : (r : ℕ) → r ≡ h.at + cond (dotted h s) 1 0 → r ≤ length s → CutAt (dotted h s) (head_list h) s r
+  unfolding cut_of
+  head_cut r e m = record { is = e ∙ rw ends_at (split (dotted h s) (λ y. rw (alone y, y)) (λ n. rw n)); inside = m }
 
   -- a list whose body ends in p: the head comes before it, and a dot behind a drive does not count
   module _ (e : ℕ) (w : List Element) (p : Element) (t : within (is_sep h.seps) (dots h.seps) s h.at e ≡ w ++ (p ∷ [])) where
@@ -408,6 +387,14 @@ module _ (k : Seps) (s : List ℕ) (r : View) where
     pub ancestor_up : (n ≡ 0 → ⊥) → ViewAt (up_by (dotted (start_of k s) s) (list_of k s) n) s r → ViewAt (ancestor_of n k s) s r
     unfolding ancestor_of rest_back
     ancestor_up h a = rw (ne_eqb n 0 h) (rw (up_rest (list_of k s) n (dotted (start_of k s) s)) at a)
+
+-- what an opened path tells is told of the path that was opened
+module _ (o : Opened) (k : Seps) (s : List ℕ) (i : o.seps ≡ k) (j : o.path.now ≡ s) where
+  pub cut_opened : (e r : ℕ) → CutAt (dotted o.start o.path.now) (list_to o.start o.path.now e) o.path.now r → CutAt (dotted o.start s) (list_to o.start s e) s r
+  cut_opened e r t = rw (← j) t
+
+  pub up_opened : (n : ℕ) (r : View) → (n ≡ 0 → ⊥) → ViewAt (up_by (dotted (start_of o.seps o.path.now) o.path.now) (list_of o.seps o.path.now) n) o.path.now r → ViewAt (ancestor_of n k s) s r
+  up_opened n r z t = rw (← i, ← j) (ancestor_up o.seps o.path.now r n z t)
 
 pub ancestor_whole : (k : Seps) (s : List ℕ) (n : ℕ) → n ≡ 0 → ViewAt (ancestor_of n k s) s (seen 0 (length s))
 unfolding ancestor_of told
@@ -606,4 +593,4 @@ module _ (k : Seps) (s : List ℕ) (p : Option Part) (a : NameAt k s p) (q : Par
 
 pub ruleset naming = (name_none, name_is, name_not, dot_none, dot_found, name_absent, name_fits, name_ends, name_seen, stem_is, stem_whole, extension_none, dot_before, dot_fits, stem_dot, extension_dot, base_name, base_not, base_none)
 
-pub ruleset climbing = (back_inside, head_fits, head_dot, head_plain, before_none, before_fits, before_part, up_fixed, up_lone, up_long, up_fits, up_part, up_left, left_none, left_some, parent_head, parent_part, ancestor_up, ancestor_whole)
+pub ruleset climbing = (back_inside, head_cut, before_none, before_fits, before_part, up_fixed, up_lone, up_long, up_fits, up_part, up_left, left_none, left_some, parent_head, parent_part, cut_opened, up_opened, ancestor_whole)

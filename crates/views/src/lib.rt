@@ -7,34 +7,21 @@ ghost use Rattle.answers.specs.Outcome.{told};
 ghost use Rattle.answers.specs.Reply.{refused_view};
 ghost use Rattle.components.specs.List.{start_of, head_list, list_of};
 ghost use Rattle.cursors.specs.Rest.{dotted};
-ghost use Rattle.components.specs.Leaves.{OpenAt};
 ghost use Rattle.views.specs.Views.{parent_of, ancestor_of, file_name_of, file_stem_of, extension_of};
 ghost use Rattle.views.specs.Leaves.{up_by, ViewAt, CutAt, list_to, head_up, NameAt, BaseAt, DotAt, StemAt};
 
 use answers::{Reply, View};
-use components::{Dir, Start};
+use components::{Dir, Opened};
 use octets::Seps;
 use parts::Part;
 
-// Where the head ends, with a dot that is no component behind a drive, as in `C:.`.
-fn head_end(k: Seps, h: Start, s: &[u8]) -> usize
-    requires { OpenAt k s.now h }
-    ensures { CutAt (dotted h s.now) (head_list h) s.now result }
-{
-    if cursors::is_dotted(h, s) {
-        h.at + 1
-    } else {
-        h.at
-    }
-}
-
 // Where the last component before place e ends; 0 if there is none.
-fn end_before(k: Seps, h: Start, s: &[u8], e: usize) -> usize
-    requires { OpenAt k s.now h × (e ≤ length s.now) }
-    ensures { CutAt (dotted h s.now) (list_to h s.now e) s.now result }
+fn end_before(o: &Opened<'_>, e: usize) -> usize
+    requires { e ≤ length o.now.path.now }
+    ensures { CutAt (dotted o.now.start o.now.path.now) (list_to o.now.start o.now.path.now e) o.now.path.now result }
 {
-    match parts::last(h.seps, s, h.at, e) {
-        None => head_end(k, h, s),
+    match parts::last(o.start.seps, o.path, o.start.at, e) {
+        None => cursors::head_end(o),
         Some(q) => q.start + q.len,
     }
 }
@@ -53,46 +40,44 @@ fn head_up(d: Dir, left: usize) -> View
     }
 }
 
-// What remains of the head h after `left` steps back, which may be none.
-fn head_left(k: Seps, h: Start, s: &[u8], left: usize) -> View
-    requires { OpenAt k s.now h }
-    ensures { ViewAt (up_by (dotted h s.now) (head_list h) left) s.now result }
+// What remains of the head after `left` steps back, which may be none.
+fn head_left(o: &Opened<'_>, left: usize) -> View
+    ensures { ViewAt (up_by (dotted o.now.start o.now.path.now) (head_list o.now.start) left) o.now.path.now result }
 {
     if left == 0 {
         return View {
             reply: Reply::Done,
             start: 0,
-            len: head_end(k, h, s),
+            len: cursors::head_end(o),
         };
     }
-    head_up(h.dir, left)
+    head_up(o.start.dir, left)
 }
 
 // What remains after n steps back: all up to the end of the part that has n behind it, or what the body leaves of the head.
-fn up(k: Seps, s: &[u8], n: usize) -> View
-    ensures { ViewAt (up_by (dotted (start_of k s.now) s.now) (list_of k s.now) n) s.now result }
+fn up(o: &Opened<'_>, n: usize) -> View
+    ensures { ViewAt (up_by (dotted (start_of o.now.seps o.now.path.now) o.now.path.now) (list_of o.now.seps o.now.path.now) n) o.now.path.now result }
 {
-    let h = components::begin(k, s);
-    match parts::walk_back(h.seps, s, h.at, s.len(), n) {
+    match parts::walk_back(o.start.seps, o.path, o.start.at, o.path.len(), n) {
         Ok(q) => View {
             reply: Reply::Done,
             start: 0,
             len: q.start + q.len,
         },
-        Err(left) => head_left(k, h, s, left),
+        Err(left) => head_left(o, left),
     }
 }
 
 pub fn parent(k: Seps, s: &[u8]) -> View
     ensures { ViewAt (parent_of k s.now) s.now result }
 {
-    let h = components::begin(k, s);
-    match parts::last(h.seps, s, h.at, s.len()) {
-        None => head_up(h.dir, 1),
+    let o = Opened::new(k, s);
+    match parts::last(o.start.seps, s, o.start.at, s.len()) {
+        None => head_up(o.start.dir, 1),
         Some(q) => View {
             reply: Reply::Done,
             start: 0,
-            len: end_before(k, h, s, q.start),
+            len: end_before(&o, q.start),
         },
     }
 }
@@ -108,7 +93,7 @@ pub fn ancestor(k: Seps, s: &[u8], n: usize) -> View
             len: s.len(),
         };
     }
-    up(k, s, n)
+    up(&Opened::new(k, s), n)
 }
 
 // The last part, if it is a name. No head is one, so the body alone is asked.
@@ -123,9 +108,9 @@ pub fn name_part(k: Seps, s: &[u8]) -> Option<Part>
 pub fn base_len(k: Seps, s: &[u8]) -> usize
     ensures { BaseAt k s.now result }
 {
-    let h = components::begin(k, s);
-    match parts::last(h.seps, s, h.at, s.len()) {
-        Some(q) if parts::is_name(q.kind) => end_before(k, h, s, q.start),
+    let o = Opened::new(k, s);
+    match parts::last(o.start.seps, s, o.start.at, s.len()) {
+        Some(q) if parts::is_name(q.kind) => end_before(&o, q.start),
         _ => s.len(),
     }
 }

@@ -2,7 +2,8 @@
 use Rattle.std.specs.Prelude.{◌≡◌, refl, [], ◌∷◌}
 use Rattle.prefixes.specs.declared.Prefix.TheVariants.{Disk}
 use Rattle.parts.specs.declared.Component.TheVariants.{Prefix as Prefixed, Normal}
-use Rattle.wording.specs.Lines.{spaces, cell_of, column_of, glyph_of, hex_of, shown_of, escaped_of, columns_of, line_of}
+use Rattle.wording.specs.Lines.{spaces, cell_of, column_of, hex_of, shown_of, escaped_of, columns_of, line_of}
+use Rattle.protocol.specs.Digits.{glyph_of}
 
 -- `name                         3       4  maps`
 pub name_line :

@@ -4,6 +4,7 @@ use Rattle.answers.specs.Written.{over}
 use Rattle.prefixes.specs.declared.Prefix.{Prefix}
 use Rattle.prefixes.specs.declared.Prefix.TheVariants.{Verbatim, VerbatimUnc, VerbatimDisk, DeviceNs, Unc, Disk}
 use Rattle.parts.specs.declared.Component.{Component}
+use Rattle.protocol.specs.Digits.{glyph_of}
 use Rattle.parts.specs.declared.Component.TheVariants.{Prefix as Prefixed, RootDir, CurDir, ParentDir, Normal}
 
 -- w was put at place n of a buffer, whose bytes ahead of n and behind w stay; r is the place behind it
@@ -32,10 +33,6 @@ cell_of v = cond (eqb v 0) 32 (48 + v % 10)
 -- v in four places, at the right
 unfoldable pub column_of : ℕ → List ℕ
 column_of v = cell_of (v / 1000) ∷ cell_of (v / 100) ∷ cell_of (v / 10) ∷ (48 + v % 10) ∷ []
-
--- a hex digit
-unfoldable pub glyph_of : ℕ → ℕ
-glyph_of d = cond (ltb d 10) (48 + d) (87 + d)
 
 -- \xNN
 unfoldable pub hex_of : ℕ → List ℕ

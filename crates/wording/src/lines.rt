@@ -1,10 +1,11 @@
 // A component as a line: its kind in words, its start and its length in columns, and its bytes.
 ghost use Rattle.std.specs.Prelude.{◌≡◌, ◌+◌, ◌-◌, ◌*◌, ◌≤◌, ◌<◌, [], ◌∷◌, ◌++◌, length};
-ghost use Rattle.wording.specs.Lines.{Fronted, spaces, cell_of, column_of, glyph_of, hex_of, shown_of, escaped_of, prefix_words, kind_words, columns_of, line_of};
+ghost use Rattle.wording.specs.Lines.{Fronted, spaces, cell_of, column_of, hex_of, shown_of, escaped_of, prefix_words, kind_words, columns_of, line_of};
 ghost use Rattle.wording.specs.Rows.{Added};
 
 use parts::Component;
 use prefixes::Prefix;
+use protocol::glyph;
 
 // The digit that v ends in, or a space where v is 0: a number's digit ahead of its last.
 #[tactic(auto, unfolding(crate::specs::Lines::cell_of))]
@@ -12,15 +13,6 @@ fn cell(v: usize) -> u8
     ensures { result ≡ cell_of v }
 {
     if v == 0 { b' ' } else { b'0' + (v % 10) as u8 }
-}
-
-// A hex digit, 0 to 15.
-#[tactic(auto, unfolding(crate::specs::Lines::glyph_of))]
-fn glyph(d: u8) -> u8
-    requires { d < 16 }
-    ensures { result ≡ glyph_of d }
-{
-    if d < 10 { b'0' + d } else { b'a' - 10 + d }
 }
 
 // A line while it is written: the lent buffer, and the place behind what stands in it.

@@ -8,8 +8,5 @@ returns-then-n-f c = search (rules, cursors)
 pub returns-then-n-f-2 : goal.returns-then-n-f-2
 returns-then-n-f-2 c = search (rules, cursors)
 
-pub rest_of-requires-clause-fact : goal.rest_of-requires-clause-fact
-rest_of-requires-clause-fact c = search (rules, cursors)
-
 pub returns : goal.returns
 returns c = search (rules, cursors)

@@ -1,8 +1,10 @@
-use Rattle.verbatim.specs.Leaves.{Counting, Reading, bulk}
+use Rattle.std.proofs.Common.{length}
+use Rattle.parts.specs.Steps.{parts_left}
+use Rattle.verbatim.specs.Leaves.{Counting, Reading}
 use Rattle.verbatim.proofs.count_kept.Given as goal
 
 abbrev pub invariant-loop-x : goal.invariant-loop-x
-invariant-loop-x l = Reading l.k l.s l.t.lo l.initial.c l.e l.c × Counting l.k l.s l.t.lo l.initial.e l.initial.c l.e l.c l.n
-
-abbrev pub decreases-loop-x : goal.decreases-loop-x
-decreases-loop-x l = bulk l.k l.s l.t.lo l.e
+invariant-loop-x l = record {
+  reads : Reading l.s l.fn.t.left (length l.x-iterator.iter.bytes.now) (parts_left l.x-iterator.iter) l.c;
+  counts : Counting l.k l.s l.fn.t (length l.x-iterator.iter.bytes.now) (parts_left l.x-iterator.iter) l.c l.n;
+}
