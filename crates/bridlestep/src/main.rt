@@ -144,7 +144,7 @@ fn list(rt: &impl Print, mode: usize, path: &[u8]) -> Result<(), Failure>
     Ok(())
 }
 
-// Whether the first path comes before the second: 0 if it does, 1 for equal paths, else 2.
+// Says in a word which of the two paths comes first.
 fn compare(rt: &impl Print, mode: usize, p: &[u8], q: &[u8]) -> Result<(), Failure> {
     let v = paths::compare(mode, p, q);
     accepted(v.reply, "absent: there is no order\n")?;
@@ -201,23 +201,17 @@ fn command(rt: &impl Env, p: &mut [u8; WORD]) -> Result<Command, Failure> {
     Ok(c)
 }
 
-fn run(
-    rt: &(impl Env + Print),
-    p: &mut [u8; WORD],
-    q: &mut [u8; WORD],
+// What a command answers for its words: to p, and to q where it takes two.
+fn answer(
+    rt: &impl Print,
+    c: Command,
+    mode: usize,
+    p: &[u8],
+    q: &[u8],
     out: &mut [u8; ROOM],
-) -> Result<(), Failure> {
-    let c = command(rt, p)?;
-    // The mode, and the word behind it, where the paths begin. Help has neither, and `absolute` is for Unix alone.
-    let (mode, first) = match c {
-        Command::Help | Command::Absolute => (Some(0), 2),
-        _ => (wording::mode_of(word(rt, 2, p)), 3),
-    };
-    let Some(mode) = mode else {
-        return Err(Failure::Misused(usage(c)));
-    };
-    let p = word(rt, first, p);
-    let q = word(rt, first + 1, q);
+) -> Result<(), Failure>
+    requires { length p.now ≤ 4097 }
+{
     let unwritten = "absent: there is no such path\n";
     match c {
         Command::Help => {
@@ -241,6 +235,25 @@ fn run(
         Command::Join => show(rt, paths::join(mode, p, q, out), out, unwritten),
         Command::Absolute => show(rt, paths::absolute(mode, p, q, out), out, unwritten),
     }
+}
+
+// One run: the command, its mode, its paths, its answer.
+fn run(
+    rt: &(impl Env + Print),
+    p: &mut [u8; WORD],
+    q: &mut [u8; WORD],
+    out: &mut [u8; ROOM],
+) -> Result<(), Failure> {
+    let c = command(rt, p)?;
+    // The mode, and the word behind it, where the paths begin. Help has neither, and `absolute` is for Unix alone.
+    let (mode, first) = match c {
+        Command::Help | Command::Absolute => (Some(0), 2),
+        _ => (wording::mode_of(word(rt, 2, p)), 3),
+    };
+    let Some(mode) = mode else {
+        return Err(Failure::Misused(usage(c)));
+    };
+    answer(rt, c, mode, word(rt, first, p), word(rt, first + 1, q), out)
 }
 
 fn main(rt: HostRuntime) -> ExitCode {
