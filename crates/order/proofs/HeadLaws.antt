@@ -1,7 +1,7 @@
 -- How heads meet, and what follows for two whole lists: an element of a head comes before every part that can stand in its
 -- place in the other path.
 use Rattle.std.specs.Prelude.{ℕ, suc, ◌<◌, ◌≤◌, ◌≡◌, Bool, true, false, length, drop, eqb, Option, Some, None}
-use Rattle.std.proofs.Common.{arith, sym, ◌∙◌, ne_eqb, eqb-true}
+use Rattle.std.proofs.Common.{arith, sym, ap, ◌∙◌, ne_eqb, eqb-true}
 use Rattle.std.proofs.Math.Path.{refl}
 use mathlib.Core.List.{List, [], ◌∷◌, ◌++◌, map-append}
 use Rattle.std.proofs.lemmas.Bool.{false≢true}
@@ -26,6 +26,7 @@ use Rattle.std.specs.declared.cmp.Ordering.TheVariants.{Less, Greater}
 use Rattle.order.specs.declared.Heads.{Heads}
 use Rattle.order.specs.declared.Heads.TheVariants.{Same, Apart, First, Second}
 use Rattle.order.specs.Values.{Value, valued, value_of, values_in, values_of}
+use Rattle.order.specs.Ordered.{swapped}
 use Rattle.order.specs.Order.{lexical, cmp_value, cmp_values}
 use Rattle.order.proofs.Ordered.{each, itself, value_ordered, nat_less, nat_more}
 use Rattle.order.specs.Leaves.{lead_kind, prefix_values, dir_rank, dir_values, head_values, body_values, is_nil, meet, order_of}
@@ -160,6 +161,20 @@ pub kind_more : (u v : Value) → v.kind < u.kind → cmp_value u v ≡ Greater
 unfolding cmp_value
 kind_more u v h = rw (nat_more u.kind v.kind h)
 
+-- what is met from the other side
+abbrev turned : Heads → Heads
+turned Same = Same
+turned First = Second
+turned Second = First
+turned (Apart x) = Apart (swapped x)
+
+meet_turned : (l m : List Value) → meet m l ≡ turned (meet l m)
+unfolding meet
+meet_turned [] [] = refl
+meet_turned [] (v ∷ m) = refl
+meet_turned (u ∷ l) [] = refl
+meet_turned (u ∷ l) (v ∷ m) = rw (value_ordered.flips u v) (each (cmp_value u v) (λ x. rw x) (λ x. rw x (meet_turned l m)) (λ x. rw x))
+
 -- two lists that begin with a and b
 module _ (l m : List Value) where
   meet_same : (a b : List Value) → meet a b ≡ Same → meet (a ++ l) (b ++ m) ≡ meet l m
@@ -183,26 +198,12 @@ module _ (l m : List Value) where
   meet_first_end (u ∷ a) [] e z = rw z
   meet_first_end (u ∷ a) (v ∷ b) e z = each (cmp_value u v) (λ x. bad (cc)) (λ x. rw x (meet_first_end a b (rw x at e) z)) (λ x. bad (cc))
 
-  meet_second_end : (a b : List Value) → meet a b ≡ Second → l ≡ [] → meet (a ++ l) (b ++ m) ≡ Second
-  unfolding meet
-  meet_second_end [] [] e z = bad (cc)
-  meet_second_end [] (v ∷ b) e z = rw z
-  meet_second_end (u ∷ a) [] e z = bad (cc)
-  meet_second_end (u ∷ a) (v ∷ b) e z = each (cmp_value u v) (λ x. bad (cc)) (λ x. rw x (meet_second_end a b (rw x at e) z)) (λ x. bad (cc))
-
   meet_first_more : (w : Value) (a b : List Value) → meet a b ≡ First → Under a w → meet (a ++ l) (b ++ (w ∷ m)) ≡ Apart Less
   unfolding meet Under
   meet_first_more w [] [] e z = bad (cc)
   meet_first_more w [] (v ∷ b) e z = bad (cc)
   meet_first_more w (u ∷ a) [] e z = rw (kind_less u w z.0)
   meet_first_more w (u ∷ a) (v ∷ b) e z = each (cmp_value u v) (λ x. bad (cc)) (λ x. rw x (meet_first_more w a b (rw x at e) z.1)) (λ x. bad (cc))
-
-  meet_second_more : (w : Value) (a b : List Value) → meet a b ≡ Second → Under b w → meet (a ++ (w ∷ l)) (b ++ m) ≡ Apart Greater
-  unfolding meet Under
-  meet_second_more w [] [] e z = bad (cc)
-  meet_second_more w [] (v ∷ b) e z = rw (kind_more w v z.0)
-  meet_second_more w (u ∷ a) [] e z = bad (cc)
-  meet_second_more w (u ∷ a) (v ∷ b) e z = each (cmp_value u v) (λ x. bad (cc)) (λ x. rw x (meet_second_more w a b (rw x at e) z.1)) (λ x. bad (cc))
 
 -- ---- the values of a head
 prefix_values_lem : (s : List ℕ) (p : Option Prefix) (e : ℕ) → values_in s (prefix_part p e) ≡ prefix_values s p
@@ -247,12 +248,6 @@ one_first x [] e = refl
 one_first x (v ∷ []) e = each (cmp_value x v) (λ z. bad (cc)) (λ z. bad (cc)) (λ z. bad (cc))
 one_first x (v ∷ w ∷ b) e = each (cmp_value x v) (λ z. bad (cc)) (λ z. bad (cc)) (λ z. bad (cc))
 
-one_second : (x : Value) (b : List Value) → meet b (x ∷ []) ≡ Second → b ≡ []
-unfolding meet
-one_second x [] e = refl
-one_second x (v ∷ []) e = each (cmp_value v x) (λ z. bad (cc)) (λ z. bad (cc)) (λ z. bad (cc))
-one_second x (v ∷ w ∷ b) e = each (cmp_value v x) (λ z. bad (cc)) (λ z. bad (cc)) (λ z. bad (cc))
-
 nil_none : (l : List Value) → is_nil l ≡ true → l ≡ []
 nil_none [] e = refl
 nil_none (v ∷ l) e = absurd (false≢true e)
@@ -295,12 +290,14 @@ module _ (k : Seps) (s : List ℕ) (g : Start) (o : OpenAt k s g) (t : List ℕ)
         (λ w n d. parted ∙ rw d (meet_first_more _ n w (head_values s g) (head_values t h) (sym e ∙ f)
         (under k s g t h q w n (λ x. one_first (valued 3 []) (head_values t h) (rw (dot_values k s g o x) at (sym e ∙ f))) d)))
 
-  module _ (b : Bool) (f : m ≡ Second) (z : b ≡ is_nil (body_values g.seps s g.at)) where
-    pub whole_second_end : b ≡ true → meet (values_of k s) (values_of k t) ≡ Second
-    whole_second_end y = parted ∙ meet_second_end _ _ (head_values s g) (head_values t h) (sym e ∙ f) (nil_none _ (sym z ∙ y))
+-- the same where the second list's head ends first: told from that one's side
+module _ (k : Seps) (s : List ℕ) (g : Start) (o : OpenAt k s g) (t : List ℕ) (h : Start) (q : OpenAt k t h) (m : Heads) (e : m ≡ meet (head_values s g) (head_values t h))
+    (b : Bool) (f : m ≡ Second) (z : b ≡ is_nil (body_values g.seps s g.at)) where
+  heads_turned : First ≡ meet (head_values t h) (head_values s g)
+  heads_turned = sym (meet_turned (head_values s g) (head_values t h) ∙ ap turned (sym e ∙ f))
 
-    pub whole_second_more : b ≡ false → meet (values_of k s) (values_of k t) ≡ Apart Greater
-    whole_second_more y =
-        by_nil (body_values g.seps s g.at) (sym z ∙ y)
-        (λ w n d. parted ∙ rw d (meet_second_more n _ w (head_values s g) (head_values t h) (sym e ∙ f)
-        (under k t h s g o w n (λ x. one_second (valued 3 []) (head_values s g) (rw (dot_values k t h q x) at (sym e ∙ f))) d)))
+  pub whole_second_end : b ≡ true → meet (values_of k s) (values_of k t) ≡ Second
+  whole_second_end y = meet_turned (values_of k t) (values_of k s) ∙ ap turned (whole_first_end k t h q s g o First heads_turned b refl z y)
+
+  pub whole_second_more : b ≡ false → meet (values_of k s) (values_of k t) ≡ Apart Greater
+  whole_second_more y = meet_turned (values_of k t) (values_of k s) ∙ ap turned (whole_first_more k t h q s g o First heads_turned b refl z y)
