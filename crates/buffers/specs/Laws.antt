@@ -1,6 +1,6 @@
 -- Laws of what is written over a buffer: stores, copies, lent parts, and loops that write from the front or from the back.
-use Rattle.std.specs.Prelude.{ℕ, ◌+◌, ◌-◌, ◌<◌, ◌≤◌, ◌≡◌, refl, List, [], ◌∷◌, ◌++◌, Bool, true, false, cond, length, take, drop, set, ltb}
-use Rattle.std.proofs.Common.{zero-le, sym, ap, ◌∙◌, append_assoc, append-nil, le_of_suc-le-suc, not-suc-le-zero, arith, length-append, length-drop, drop_of_length-le, take-append-drop, drop-drop, take_all, take-add, length-take-le, take_at, drop_at, take-take, le-leb, lt-ltb, le-ltb}
+use Rattle.std.specs.Prelude.{ℕ, zero, suc, ◌+◌, ◌-◌, ◌<◌, ◌≤◌, ◌≡◌, refl, List, [], ◌∷◌, ◌++◌, Bool, true, false, cond, length, take, drop, set, get_or, ltb}
+use Rattle.std.proofs.Common.{zero-le, sym, ap, ◌∙◌, append_assoc, append-nil, le_of_suc-le-suc, not-suc-le-zero, add-sub_of_le, add-one, arith, length-append, length-drop, drop_of_length-le, take-append-drop, drop-drop, take_all, take-add, length-take-le, take_at, drop_at, take-take, le-leb, lt-ltb, le-ltb}
 use Rattle.std.proofs.Math.Seq.{take-append_seam, drop-append_seam, drop-append-add, take-length, drop-length}
 use Rattle.std.proofs.lemmas.List.{take-append-le}
 use borrow.Rule.Slice.PartMut.{mid_of, put_mid}
@@ -39,6 +39,17 @@ pub over_part : (r s b : List ℕ) → take (length r) (over r b) ++ over s (dro
 unfolding over
 over_part r s b = simp (take-append_seam, drop-append_seam, drop-drop, append_assoc, length-append)
 
+-- a turn of a loop that copies s
+copied : (s b : List ℕ) (i : ℕ) → i < length s → i < length b → set (over (take i s) b) i (get_or s i 0) ≡ over (take (suc i) s) b
+unfolding over
+copied [] b i h k = absurd (not-suc-le-zero h)
+copied (a ∷ s) [] i h k = absurd (not-suc-le-zero k)
+copied (a ∷ s) (x ∷ b) zero h k = refl
+copied (a ∷ s) (x ∷ b) (suc i) h k = ap (λ (l : List ℕ). a ∷ l) (copied s b i (le_of_suc-le-suc h) (le_of_suc-le-suc k))
+
+pub over_copy : (s b : List ℕ) (i : ℕ) → i < length s → i < length b → set (over (take i s) b) i (get_or s i 0) ≡ over (take (i + 1) s) b
+over_copy s b i h k = rw add-one (copied s b i h k)
+
 pub over_over : (r s b : List ℕ) → over (r ++ s) (over r b) ≡ over (r ++ s) b
 unfolding over
 over_over r s b = simp (length-append, drop-append-add, drop-drop)
@@ -50,6 +61,23 @@ take_over r b n h = take_at r (drop (length r) b) n h
 pub over_take : (b : List ℕ) (n : ℕ) → n ≤ length b → b ≡ over (take n b) b
 unfolding over
 over_take b n h = rw (length-take-le n b h, take-append-drop)
+
+take_over_le : (s b : List ℕ) (i m : ℕ) → i ≤ m → m ≤ length s → take i (over (take m s) b) ≡ take i s
+unfolding over
+take_over_le s b i m h l = take-append-le i (take m s) _ (omega (arith, length-take-le m s l)) ∙ take-take i m s h
+
+-- a block of s at i, where what stands before goes at least so far, and not further than the block
+pub over_block : (s b w after : List ℕ) (i m : ℕ) → w ≡ over (take m s) b → i ≤ m → m ≤ i + 16 → m ≤ length s → after ≡ over (take i w ++ take 16 (drop i s)) w → after ≡ over (take (i + 16) s) b
+over_block s b w after i m ew h k l ea =
+    let front : take i w ≡ take i s = rw ew (take_over_le s b i m h l) in
+    let more : take (i + 16) s ≡ take m s ++ take (i + 16 - m) (drop m s) = rw (← take-add m (i + 16 - m) s, add-sub_of_le k) refl in
+    ea ∙ rw (front, ← take-add i 16 s, more, ew) (over_over (take m s) (take (i + 16 - m) (drop m s)) b)
+
+-- the last block: it ends where s ends
+pub block_last : (s b w after : List ℕ) (i : ℕ) → w ≡ over (take i s) b → length s - 16 ≤ i → i ≤ length s → 16 ≤ length s → after ≡ over (take (length s - 16) w ++ take 16 (drop (length s - 16) s)) w → after ≡ over s b
+block_last s b w after i ew h k l ea =
+    let m : length s - 16 + 16 ≡ length s = omega arith in
+    over_block s b w after (length s - 16) i ew h (omega arith) k ea ∙ rw (m, take-length s)
 
 -- w is a buffer with r written over b; its part behind r was lent, and came back with s written over it
 pub over_lent : (r s b w part : List ℕ) (n : ℕ) → n ≡ length r → w ≡ over r b → part ≡ over s (mid_of n (length w - n) w) → put_mid n (length w - n) w part ≡ over (r ++ s) b
@@ -97,6 +125,12 @@ module _ (p q b : List ℕ) (d : Bool) (c g : ℕ) (e : g ≡ bool_byte d) where
     pub laid_near : d ≡ false → v ≡ w → Wrote (give ((p ++ cond d (c ∷ []) []) ++ q)) (seen 0 (length p + g + length q)) b (put_mid (length p + g) (length v - (length p + g)) v part)
     laid_near y ev = laid (ev ∙ ew ∙ rw (y, append-nil) refl)
 
+  -- the same, where the byte between them, or none, was itself written over w
+  pub laid_lent : (w v part : List ℕ) → length p + g + length q ≤ length b → w ≡ over p b → v ≡ over (take (length p) w ++ cond d (c ∷ []) []) w → part ≡ over q (mid_of (length p + g) (length v - (length p + g)) v) → Wrote (give ((p ++ cond d (c ∷ []) []) ++ q)) (seen 0 (length p + g + length q)) b (put_mid (length p + g) (length v - (length p + g)) v part)
+  laid_lent w v part h ew ev ep =
+      let t : take (length p) w ≡ p = rw ew (take_over p b (length p) refl) in
+      laid w v part h ew ep (ev ∙ rw (t, ew, over_over))
+
 pub ruleset gaps = (laid_room, laid_apart, laid_near)
 
 -- w is written from the front, n bytes of it so far; the next piece of it is x
@@ -110,17 +144,17 @@ module _ (w x r : List ℕ) (n : ℕ) (h : n ≤ length w) (e : drop n w ≡ x +
   pub next_fits : n + length x ≤ length w
   next_fits = omega (arith, simp (length-drop, length-append) at (ap length e))
 
--- the front of b, or its part from n on, became s
-pub over_front : (s b part : List ℕ) → part ≡ s → part ++ drop (length s) b ≡ over s b
-unfolding over
-over_front s b part e = rw e refl
+-- the part of b from n on was lent, and came back with s written over it
+pub over_push : (s b part : List ℕ) (n : ℕ) → part ≡ over s (mid_of n (length b - n) b) → n ≤ length b → put_mid n (length b - n) b part ≡ over (take n b ++ s) b
+over_push s b part n e h = over_lent (take n b) s b b part n (sym (length-take-le n b h)) (over_take b n h) e
 
-pub over_push : (s b part : List ℕ) (n : ℕ) → part ≡ s → n + length s ≤ length b → put_mid n (n + length s - n) b part ≡ over (take n b ++ s) b
-unfolding over
-over_push s b part n e h =
-    let k : n + length s - n ≡ length s = omega arith in
-    let l : length (take n b ++ s) ≡ n + length s = omega (arith, length-append (take n b) s, length-take-le n b (omega arith)) in
-    rw (e, k, l, drop-drop, append_assoc) refl
+-- 16 bytes of s from i on, that passed through a block z
+pub block_done : (s b t z part : List ℕ) (i : ℕ) → t ≡ over (take (i + 16 - i) (drop i s)) z → part ≡ over t (mid_of i (length b - i) b) → length z ≡ 16 → i + 16 ≤ length s → i ≤ length b → put_mid i (length b - i) b part ≡ over (take i b ++ take 16 (drop i s)) b
+block_done s b t z part i et ep lz h k =
+    let w : i + 16 - i ≡ 16 = omega arith in
+    let l : length (take 16 (drop i s)) ≡ length z = length-take-le 16 (drop i s) (rw (length-drop i s) (omega arith)) ∙ sym lz in
+    let e : t ≡ take 16 (drop i s) = et ∙ rw w (over_whole (take 16 (drop i s)) z l) in
+    over_push (take 16 (drop i s)) b part i (ep ∙ rw e) k
 
 -- a store at n
 pub over_set : (b : List ℕ) (n v : ℕ) → n < length b → set b n v ≡ over (take n b ++ (v ∷ [])) b
@@ -129,7 +163,7 @@ over_set b n v h =
     let e : set (over (take n b) b) (length (take n b)) v ≡ over (take n b ++ (v ∷ [])) b = over_store (take n b) b v (omega arith) in
     rw (l, ← over_take b n (omega arith)) at e
 
-pub ruleset writes = (over_front, over_push, over_set)
+pub ruleset writes = (over_push, over_set)
 
 -- a byte at j, and then x behind it
 pub two_pushes : (b one two x : List ℕ) (j m y : ℕ) → one ≡ over (take j b ++ (y ∷ [])) b → two ≡ over (take m one ++ x) one → m ≡ j + 1 → j ≤ length b → two ≡ over (take j b ++ (y ∷ x)) b

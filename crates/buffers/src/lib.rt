@@ -8,24 +8,52 @@ ghost use Rattle.answers.specs.Written.{over, Wrote};
 
 use answers::{Reply, View};
 
-// dst's front becomes src; every later byte stays.
+// dst's front becomes src, byte by byte. Not `copy_from_slice`: the archives for C would ask for `memmove` from outside, and a kernel
+// may have none.
+fn copy_bytes(dst: &mut [u8], src: &[u8])
+    requires { length src.now ≤ length dst.old }
+    ensures { dst.new ≡ over src.now dst.old }
+{
+    for (i, b) in src.iter().enumerate() {
+        dst[i] = *b;
+    }
+}
+
+// 16 bytes of src from i on, over those of dst. They pass through a block that is nobody else's: so a compiler can move them at
+// once.
+fn copy_block(dst: &mut [u8], src: &[u8], i: usize)
+    requires { (i + 16 ≤ length src.now) × (length src.now ≤ length dst.old) }
+    ensures { dst.new ≡ over (take i dst.old ++ take 16 (drop i src.now)) dst.old }
+{
+    let mut t = [0; 16];
+    copy_bytes(&mut t, &src[i..i + 16]);
+    copy_bytes(&mut dst[i..], &t);
+}
+
+// dst's front becomes src; every later byte stays. Blocks from the front, and the one that ends where src ends.
 pub fn copy(dst: &mut [u8], src: &[u8])
     requires { length src.now ≤ length dst.old }
     ensures { dst.new ≡ over src.now dst.old }
 {
-    dst[..src.len()].copy_from_slice(src);
+    let n = src.len();
+    if n < 16 {
+        return copy_bytes(dst, src);
+    }
+    for k in 0..(n - 1) / 16 {
+        copy_block(dst, src, 16 * k);
+    }
+    copy_block(dst, src, n - 16);
 }
 
-// src at n in out, behind what is written; the place behind it. Buffer and place are no struct: `verbatim` writes from the back, at
-// places that it counts down to.
+// src at n in out, behind what is written; the place behind it. What is pushed is mostly a name, too short for blocks. Buffer and
+// place are no struct: `verbatim` writes from the back, at places that it counts down to.
 pub fn push(out: &mut [u8], n: usize, src: &[u8]) -> usize
     requires { n + length src.now ≤ length out.old }
     ensures r_value { result ≡ n + length src.now }
     ensures out_after { out.new ≡ over (take n out.old ++ src.now) out.old }
 {
-    let end = n + src.len();
-    out[n..end].copy_from_slice(src);
-    end
+    copy_bytes(&mut out[n..], src);
+    n + src.len()
 }
 
 // One byte at n in out; the place behind it.
