@@ -13,8 +13,7 @@ fn put_line(reply: usize, row: &[usize], out: &mut Answers)
 {
     out.put_number(reply);
     out.put(b' ');
-    out.put_row(row);
-    out.put(b'\n');
+    out.put_row(row, b'\n');
 }
 
 // One function an answer of `numbers`, since a closure's bound may not name the row's length, which differs.

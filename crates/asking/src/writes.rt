@@ -20,8 +20,7 @@ pub fn put_written<F: FnOnce(&mut [u8]) -> View>(
     let lent = &mut space[..room];
     lent.fill(165);
     let v = call(lent);
-    out.put_row(&[usize::from(v.reply), v.len]);
-    out.put(b' ');
+    out.put_row(&[usize::from(v.reply), v.len], b' ');
     out.put_hex(lent);
     out.put(b'\n');
 }

@@ -75,9 +75,21 @@ impl Answers {
         self.held = end;
     }
 
-    // In decimal. Twenty digits are enough for any number. The digits come from the last on, and a `for` could not hand on
-    // where it stopped.
+    // In decimal. Of a number below 10, as most in an answer are, the one digit is put at once.
     pub fn put_number(&mut self, v: usize)
+        requires { self.old + 20 ≤ SPACE }
+        ensures { self.new ≤ self.old + 20 }
+    {
+        if v < 10 {
+            self.put(glyph(v as u8));
+        } else {
+            self.put_digits(v);
+        }
+    }
+
+    // Twenty digits are enough for any number. The digits come from the last on, and a `for` could not hand on where it stopped.
+    // They are set one by one, since a copy of so few would be a call.
+    fn put_digits(&mut self, v: usize)
         requires { self.old + 20 ≤ SPACE }
         ensures { self.new ≤ self.old + 20 }
     {
@@ -92,34 +104,42 @@ impl Answers {
                 break;
             }
         }
-        self.put_all(&digits[first..]);
+        let mut at = self.held;
+        for d in &digits[first..] {
+            self.text[at] = *d;
+            at += 1;
+        }
+        self.held = at;
     }
 
-    // Numbers with a space between.
-    pub fn put_row(&mut self, row: &[usize])
+    // The numbers of a row with a space between, and `last` behind them: the line's end, or a space where more follows.
+    pub fn put_row(&mut self, row: &[usize], last: u8)
         requires { self.old + 21 * length row.now ≤ SPACE }
         ensures { self.new ≤ self.old + 21 * length row.now }
     {
         for (i, v) in row.iter().enumerate() {
-            if i > 0 {
-                self.put(b' ');
-            }
             self.put_number(*v);
+            self.put(if i + 1 < row.len() { b' ' } else { last });
         }
     }
 
-    // The bytes of s in hex, `-` for none.
+    // The bytes of s in hex, `-` for none. Each byte is read once, the place is counted here and not in `self`, and it is not inlined,
+    // since the caller's bytes lie in one struct with `self`: so a compiler can make many digits at once, in a ninth of the time.
+    #[inline(never)]
     pub fn put_hex(&mut self, s: &[u8])
         requires { self.old + 2 * length s.now < SPACE }
-        ensures { self.new ≤ self.old + 2 * length s.now + 1 }
+        ensures { (self.old + 2 * length s.now ≤ self.new) × (self.new ≤ self.old + 2 * length s.now + 1) }
     {
         if s.is_empty() {
             self.put(b'-');
         }
-        for b in s {
-            self.put(glyph(*b / 16));
-            self.put(glyph(*b % 16));
+        let mut at = self.held;
+        for &b in s {
+            self.text[at] = glyph(b / 16);
+            self.text[at + 1] = glyph(b % 16);
+            at += 2;
         }
+        self.held = at;
     }
 
     // A line that is no request.

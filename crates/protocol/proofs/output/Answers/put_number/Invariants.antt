@@ -1,8 +1,0 @@
-use Rattle.std.proofs.Common.{◌≤◌}
-use Rattle.protocol.proofs.output.Answers.put_number.Given as goal
-
-abbrev pub invariant-loop-first : goal.invariant-loop-first
-invariant-loop-first l = l.first ≤ 20
-
-abbrev pub decreases-loop-first : goal.decreases-loop-first
-decreases-loop-first l = l.first
