@@ -190,15 +190,15 @@ fn count_words(rt: &impl Env, w: &mut [u8; WORD]) -> usize {
 
 // The command that the first word names, if the number of words is its own.
 fn command(rt: &impl Env, p: &mut [u8; WORD]) -> Result<Command, Failure> {
-    let Some(c) = wording::command_of(word(rt, 1, p)) else {
-        return Err(Failure::Misused(
+    let named = wording::command_of(word(rt, 1, p));
+    let counted = count_words(rt, p) == wording::words_of(named);
+    match named {
+        Some(c) if counted => Ok(c),
+        Some(c) => Err(Failure::Misused(usage(c))),
+        None => Err(Failure::Misused(
             "bridlestep: list, join, compare, strip, parent or absolute is wanted; bridlestep --help shows how\n",
-        ));
-    };
-    if count_words(rt, p) != wording::words_of(c) {
-        return Err(Failure::Misused(usage(c)));
+        )),
     }
-    Ok(c)
 }
 
 // What a command answers for its words: to p, and to q where it takes two.

@@ -37,12 +37,13 @@ pub fn command_of(w: &[u8]) -> Option<Command>
     beside(&COMMANDS, w)
 }
 
-// How many words its line has, the program's own name and the command among them.
-pub fn words_of(c: Command) -> usize {
+// How many words its line has, the program's own name and the command among them. No line is that of no command.
+pub fn words_of(c: Option<Command>) -> usize {
     match c {
-        Command::Help => 2,
-        Command::List | Command::Parent | Command::Absolute => 4,
-        Command::Join | Command::Compare | Command::Strip => 5,
+        None => 0,
+        Some(Command::Help) => 2,
+        Some(Command::List | Command::Parent | Command::Absolute) => 4,
+        Some(Command::Join | Command::Compare | Command::Strip) => 5,
     }
 }
 
