@@ -266,9 +266,9 @@ count_start k s b t l h e f =
     let z : length b ≡ t.hi = ap length e ∙ length-take-le t.hi s h in
     record { is = rw f (omega arith); owes = rw f refl; few = omega (arith, within_few k s t.lo t.hi h, ap length f) }
 
-module _ (k : Seps) (s : List ℕ) (t : Stretch) (e : ℕ) (l : List Element) (c n : ℕ) (j : Counting k s t e l c n) (i : Reading s t.left e l c) where
-  pub count_end : l ≡ [] → Tallied k s t (record { len = n; left = c })
-  count_end g =
+module _ (k : Seps) (s : List ℕ) (t : Stretch) (e : ℕ) (l : List Element) (c n : ℕ) (j : Counting k s t e l c n) where
+  pub count_end : Reading s t.left e l c → l ≡ [] → Tallied k s t (record { len = n; left = c })
+  count_end i g =
       record {
         len = omega (arith, j.is, ap length (text_none k s l c g));
         left = sym (owed_none k s l c g) ∙ j.owes;
@@ -276,29 +276,28 @@ module _ (k : Seps) (s : List ℕ) (t : Stretch) (e : ℕ) (l : List Element) (c
         small = omega (arith, i.small);
       }
 
-  module _ (m : List Element) (x : Part) (g : l ≡ m ++ (lift x ∷ [])) (v : x.start + x.len ≤ e) where
-    module _ (d : ℕ) (w : d ≤ x.start) (o : Sift) (h : o ≡ sift_of k (component_of x.kind) c) where
-      pub count_keep : o ≡ Keep → Counting k s t d m 0 (n + 1 + x.len)
-      count_keep z =
-          record {
-            is = omega (arith, j.is, ap length (text_keep k s l c m x g o h z), length-append (text_of k s m 0) (92 ∷ take x.len (drop x.start s)), piece s x (omega (arith, i.inside)));
-            owes = sym (rw z at (owed_step k s l c m x g o h)) ∙ j.owes;
-            few = omega (arith, j.few, step_long k s l c m x g);
-          }
+  module _ (m : List Element) (x : Part) (g : l ≡ m ++ (lift x ∷ [])) (v : x.start + x.len ≤ e) (d : ℕ) (w : d ≤ x.start) (o : Sift) (h : o ≡ sift_of k (component_of x.kind) c) where
+    pub count_keep : x.start + x.len ≤ length s → o ≡ Keep → Counting k s t d m 0 (n + 1 + x.len)
+    count_keep i z =
+        record {
+          is = omega (arith, j.is, ap length (text_keep k s l c m x g o h z), length-append (text_of k s m 0) (92 ∷ take x.len (drop x.start s)), piece s x i);
+          owes = sym (rw z at (owed_step k s l c m x g o h)) ∙ j.owes;
+          few = omega (arith, j.few, step_long k s l c m x g);
+        }
 
-      pub count_drop : (q : ℕ) → o ≡ Drop q → Counting k s t d m q n
-      count_drop q z =
-          record {
-            is = omega (arith, j.is, ap length (text_drop k s l c m x g o h q z));
-            owes = sym (rw z at (owed_step k s l c m x g o h)) ∙ j.owes;
-            few = omega (arith, j.few, step_long k s l c m x g);
-          }
+    pub count_drop : (q : ℕ) → o ≡ Drop q → Counting k s t d m q n
+    count_drop q z =
+        record {
+          is = omega (arith, j.is, ap length (text_drop k s l c m x g o h q z));
+          owes = sym (rw z at (owed_step k s l c m x g o h)) ∙ j.owes;
+          few = omega (arith, j.few, step_long k s l c m x g);
+        }
 
-    module _ (a : length s ≤ limit) where
-      pub count_one : Fits w64 (n + 1)
-      count_one = record { fits = omega (arith, j.few, i.inside) }
+  module _ (a : length s ≤ limit) where
+    pub count_one : Fits w64 (n + 1)
+    count_one = record { fits = omega (arith, j.few) }
 
-      pub count_len : Fits w64 (n + 1 + x.len)
-      count_len = record { fits = omega (arith, j.few, i.inside) }
+    pub count_len : (x : Part) → x.start + x.len ≤ e → Fits w64 (n + 1 + x.len)
+    count_len x v = record { fits = omega (arith, j.few) }
 
 pub ruleset counts = (count_start, count_end, count_keep, count_drop, count_one, count_len)

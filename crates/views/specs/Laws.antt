@@ -43,7 +43,7 @@ use Rattle.components.specs.declared.Body.{Body as Within}
 use Rattle.components.specs.List.{sep_at, prefix_dir, behind_prefix, dir_of, dir_len, start_of, prefix_part, dir_part, head_list, body_list, whole_of, list_of}
 use Rattle.components.specs.Leaves.{OpenAt, BodyAt}
 use Rattle.components.specs.Laws.{whole_list, open_start, last_begun}
-use Rattle.cursors.specs.Laws.{drive_alone}
+use Rattle.cursors.specs.Laws.{drive_alone, dot_in_lem}
 use Rattle.cursors.specs.Rest.{view_of, span, dotted, behind_dot, left_end, empty_at, rest_of}
 use Rattle.views.specs.Views.{leaves_kind, leaves, climbs, rest_back, parent_of, ancestor_of, is_normal, if_normal, last_name, has_dot, last_dot, of_name, whole_seen, stem_seen, extension_seen}
 use Rattle.views.specs.Leaves.{cut_of, up_by, ViewAt, CutAt, list_to, head_up, NameAt, BaseAt, dot_in, DotAt, StemAt}
@@ -252,6 +252,17 @@ module _ (k : Seps) (s : List ℕ) (h : Start) (o : OpenAt k s h) where
   pub head_cut : (r : ℕ) → r ≡ h.at + cond (dotted h s) 1 0 → r ≤ length s → CutAt (dotted h s) (head_list h) s r
   unfolding cut_of
   head_cut r e m = record { is = e ∙ rw ends_at (split (dotted h s) (λ y. rw (alone y, y)) (λ n. rw n)); inside = m }
+
+  -- the two ways of it, where b says whether a dot stands behind a drive
+  module _ (b : Bool) (e : b ≡ dotted h s) where
+    pub head_fits : b ≡ true → length s * 1 < 2 ^ 63 → Fits w64 (h.at + 1)
+    head_fits y w = record { fits = omega (arith, dot_in_lem k s h o (sym e ∙ y)) }
+
+    pub head_dot : b ≡ true → CutAt (dotted h s) (head_list h) s (h.at + 1)
+    head_dot y = head_cut (h.at + 1) (rw (← e, y)) (dot_in_lem k s h o (sym e ∙ y))
+
+    pub head_plain : b ≡ false → CutAt (dotted h s) (head_list h) s h.at
+    head_plain n = head_cut h.at (rw (← e, n) (omega arith)) o.high
 
   -- a list whose body ends in p: the head comes before it, and a dot behind a drive does not count
   module _ (e : ℕ) (w : List Element) (p : Element) (t : within (is_sep h.seps) (dots h.seps) s h.at e ≡ w ++ (p ∷ [])) where

@@ -6,21 +6,21 @@ use Rattle.verbatim.proofs.count_kept.Goals as goal
 
 -- with what the loop has kept given, since `search` looks for no more than a few terms that a goal does not show
 pub overflow_add-n : goal.overflow_add-n
-overflow_add-n c = search (rules, turns, count_one _ _ _ _ _ _ _ c.loop-x.invariant.counts c.loop-x.invariant.reads)
+overflow_add-n c = search (rules, turns, count_one _ _ _ _ _ _ _ c.loop-x.invariant.counts)
 
 pub overflow_add-n-in-Keep : goal.overflow_add-n-in-Keep
-overflow_add-n-in-Keep c = search (rules, turns, count_len _ _ _ _ _ _ _ c.loop-x.invariant.counts c.loop-x.invariant.reads)
+overflow_add-n-in-Keep c = search (rules, turns, count_len _ _ _ _ _ _ _ c.loop-x.invariant.counts)
 
 pub loop-x-preserved-in-Keep : goal.loop-x-preserved-in-Keep
 loop-x-preserved-in-Keep c = record {
   reads = search (rules, turns, read_keep _ _ _ _ _ c.loop-x.invariant.reads);
-  counts = search (rules, turns, count_keep _ _ _ _ _ _ _ c.loop-x.invariant.counts c.loop-x.invariant.reads (parts_left c.next.new.self.iter) c.in-Some.x (search (rules, turns)) (search (rules, turns)) (length c.next.new.self.iter.bytes.now));
+  counts = search (rules, turns, count_keep _ _ _ _ _ _ _ c.loop-x.invariant.counts (parts_left c.next_back.new.self) c.in-Some.x (search (rules, turns)) (search (rules, turns)) (length c.next_back.new.self.bytes.now) (search (rules, turns)) c.sift_kind.result c.sift_kind.ensures (search (rules, turns, c.loop-x.invariant.reads)));
 }
 
 pub loop-x-preserved : goal.loop-x-preserved
 loop-x-preserved c = record {
   reads = search (rules, turns, read_drop _ _ _ _ _ c.loop-x.invariant.reads);
-  counts = count_drop _ _ _ _ _ _ _ c.loop-x.invariant.counts c.loop-x.invariant.reads (parts_left c.next.new.self.iter) c.in-Some.x (search (rules, turns)) (search (rules, turns)) (length c.next.new.self.iter.bytes.now) (search (rules, turns)) c.sift_kind.result c.sift_kind.ensures c.in-Drop.d c.in-Drop.is;
+  counts = count_drop _ _ _ _ _ _ _ c.loop-x.invariant.counts (parts_left c.next_back.new.self) c.in-Some.x (search (rules, turns)) (search (rules, turns)) (length c.next_back.new.self.bytes.now) (search (rules, turns)) c.sift_kind.result c.sift_kind.ensures c.in-Drop.d c.in-Drop.is;
 }
 
 pub returns : goal.returns

@@ -12,7 +12,7 @@ put_part-j-requires-clause-len_bound c = (search (rules, turns, write_room _ _ _
 pub loop-x-preserved-in-Keep : goal.loop-x-preserved-in-Keep
 loop-x-preserved-in-Keep c = record {
   reads = search (rules, turns, read_keep _ _ _ _ _ c.loop-x.invariant.reads);
-  stands = write_keep _ _ _ _ _ _ _ _ _ c.loop-x.invariant.stands (parts_left c.next.new.self.iter) c.in-Some.x (search (rules, turns)) c.sift_kind.result c.sift_kind.ensures c.in-Keep.is (search (rules, turns, c.loop-x.invariant.reads)) c.put_part-j.result c.put_part-j.new.out c.put_part-j.ensures.k_value c.put_part-j.ensures.out_after;
+  stands = write_keep _ _ _ _ _ _ _ _ _ c.loop-x.invariant.stands (parts_left c.next_back.new.self) c.in-Some.x (search (rules, turns)) c.sift_kind.result c.sift_kind.ensures c.in-Keep.is (search (rules, turns, c.loop-x.invariant.reads)) c.put_part-j.result c.put_part-j.new.out c.put_part-j.ensures.k_value c.put_part-j.ensures.out_after;
 }
 
 pub loop-x-preserved : goal.loop-x-preserved
