@@ -116,12 +116,7 @@ module _ (b m : ℕ) (h : b < 256) where
   pub folded_high : 90 < bit_and b m → folds m ≡ true → false ≡ is_letter b
   folded_high l t = simp (folded t, le-leb 65 (bit_and b m) (omega arith), lt-leb (bit_and b m) 90 l)
 
--- the mask that the code has: `refl` looks at all 256 bytes
-pub mask_folds : folds 223 ≡ true
-unfolding folds
-mask_folds = refl
-
-pub ruleset letters = (folded_in, folded_low, folded_high, mask_folds)
+pub ruleset letters = (folded_in, folded_low, folded_high)
 
 pub lead_short : (sep : ℕ → Bool) (xs : List ℕ) → length (lead sep xs) ≤ length xs
 unfolding lead
@@ -129,7 +124,11 @@ lead_short sep [] = omega arith
 lead_short sep (x ∷ xs) = split (sep x) (λ e. rw e (omega arith)) (λ e. rw e (omega (arith, lead_short sep xs)))
 
 module _ (sep : ℕ → Bool) (s : List ℕ) (i : ℕ) where
-  -- the end of a segment: past a byte that does not separate, and past the end
+  -- the end of a segment: at a separator, past another byte, and past the end
+  pub end_here : i < length s → sep (get_or s i 0) ≡ true → end_of sep s i ≡ i
+  unfolding end_of lead
+  end_here h e = rw (drop-cons s i 0 h, e) (omega arith)
+
   pub end_more : i < length s → sep (get_or s i 0) ≡ false → end_of sep s i ≡ end_of sep s (i + 1)
   unfolding end_of lead
   end_more h e = rw (add-one, drop-cons s i 0 h, e) (omega arith)
