@@ -1,5 +1,5 @@
 -- Laws of the cursor: one a way through each function.
-use Rattle.std.specs.Prelude.{ℕ, ◌+◌, ◌-◌, ◌^◌, ◌<◌, ◌≤◌, List, ◌++◌, Bool, true, false, cond, length, eqb, ltb, Option, Some, None}
+use Rattle.std.specs.Prelude.{ℕ, ◌+◌, ◌-◌, ◌*◌, ◌^◌, ◌<◌, ◌≤◌, List, ◌++◌, Bool, true, false, cond, length, eqb, ltb, Option, Some, None}
 use Rattle.std.specs.Int.{w64}
 use Rattle.std.proofs.Common.{Fits, arith, sym, ◌∙◌}
 use Rattle.std.proofs.Math.Path.{◌≡◌, refl}
@@ -217,8 +217,11 @@ module _ (o : Opened) (b : Bool) (e : b ≡ dotted o.start o.path.now) where
 pub opened_in : (o : Opened) → In o.start o.path.now
 opened_in o = record { upto = list_upto o.seps o.path.now o.start o.open; small = o.small }
 
--- `rest_counted`
+-- `rest_counted`; ahead of it, the same of a path and its head
 module _ (k : Seps) (s : List ℕ) (h : Start) (o : OpenAt k s h) where
+  pub rest_in : length s * 1 < 2 ^ 63 → In h s
+  rest_in w = record { upto = list_upto k s h o; small = omega arith }
+
   module _ (n f b : ℕ) (c : CountAt (whole_of h s) n) where
     asked : n < f + b → None ≡ rest_asked k s f b
     unfolding rest_asked

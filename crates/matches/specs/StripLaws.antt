@@ -121,11 +121,11 @@ module _ (k : Seps) (s : List ℕ) (g : Start) (o : OpenAt k s g) where
       bare_upto r h = rw bare_list (upto_more g.at r (head_list g) h head_upto)
 
       module _ (b : Bool) (x : b ≡ dotted g s) where
-        last_plain : b ≡ false → LastEnd k s g g.at
+        pub last_plain : b ≡ false → LastEnd k s g g.at
         unfolding last_of
         last_plain y = record { is = rw (← x, y, bare_list) (sym head_last); low = omega arith; all = bare_upto g.at (omega arith) }
 
-        last_dot_lem : b ≡ true → LastEnd k s g (g.at + 1)
+        pub last_dot_lem : b ≡ true → LastEnd k s g (g.at + 1)
         unfolding last_of head_list nth_of
         last_dot_lem y =
             let d : dotted g s ≡ true = sym x ∙ y in

@@ -290,7 +290,18 @@ module _ (k : Seps) (s : List ℕ) (g : Start) (o : OpenAt k s g) (t : List ℕ)
         (λ w n d. parted ∙ rw d (meet_first_more _ n w (head_values s g) (head_values t h) (sym e ∙ f)
         (under k s g t h q w n (λ x. one_first (valued 3 []) (head_values t h) (rw (dot_values k s g o x) at (sym e ∙ f))) d)))
 
--- the same where the second list's head ends first: told from that one's side
+-- the same where the second list ends first: told from that one's side
+module _ (l m : List Value) where
+  meet_second_end : (a b : List Value) → meet a b ≡ Second → l ≡ [] → meet (a ++ l) (b ++ m) ≡ Second
+  meet_second_end a b e z = meet_turned (b ++ m) (a ++ l) ∙ ap turned (meet_first_end m l b a (meet_turned a b ∙ ap turned e) z)
+
+  meet_second_more : (w : Value) (a b : List Value) → meet a b ≡ Second → Under b w → meet (a ++ (w ∷ l)) (b ++ m) ≡ Apart Greater
+  meet_second_more w a b e z = meet_turned (b ++ m) (a ++ (w ∷ l)) ∙ ap turned (meet_first_more m l w b a (meet_turned a b ∙ ap turned e) z)
+
+one_second : (x : Value) (b : List Value) → meet b (x ∷ []) ≡ Second → b ≡ []
+one_second x b e = one_first x b (meet_turned b (x ∷ []) ∙ ap turned e)
+
+-- and where its head does
 module _ (k : Seps) (s : List ℕ) (g : Start) (o : OpenAt k s g) (t : List ℕ) (h : Start) (q : OpenAt k t h) (m : Heads) (e : m ≡ meet (head_values s g) (head_values t h))
     (b : Bool) (f : m ≡ Second) (z : b ≡ is_nil (body_values g.seps s g.at)) where
   heads_turned : First ≡ meet (head_values t h) (head_values s g)

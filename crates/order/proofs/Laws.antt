@@ -363,6 +363,10 @@ module _ (s : List ℕ) (j : ℕ) (l : j ≤ length s) where
   values_front sep v w (e ∷ m) u g = rw (value_front v e.component e.start e.len u.0 g.0.bodily, values_front sep v w m u.1 g.1)
 
 -- `seam`
+module _ (sep : ℕ → Bool) (s : List ℕ) (lo hi i : ℕ) where
+  pub seam_here : (b : Bool) → b ≡ sep (get_or s (i - 1) 0) → b ≡ true → lo < i → i ≤ hi → SeamAt sep s lo hi i
+  seam_here b t y l h = record { low = omega arith; edge = inr (l, h, sym t ∙ y) }
+
 pub seam_found : (sep : ℕ → Bool) (s : List ℕ) (lo hi i : ℕ) → lo ≤ hi → hi ≤ length s → i < length (take (hi - lo) (drop lo s)) → sep (get_or (take (hi - lo) (drop lo s)) i 0) ≡ true → SeamAt sep s lo hi (lo + i + 1)
 seam_found sep s lo hi i l c h y =
     let n : length (take (hi - lo) (drop lo s)) ≡ hi - lo = length-take-le (hi - lo) (drop lo s) (omega (arith, length-drop lo s)) in

@@ -1,3 +1,4 @@
 pub mod Ordered
 pub mod HeadLaws
 pub mod Laws
+pub mod Steps

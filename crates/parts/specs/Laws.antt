@@ -8,7 +8,7 @@ use native.Mathlib.Omega.{arith}
 use Rattle.std.proofs.Math.Path.{◌≡◌, refl, sym, ap}
 use mir.Val.{bool_byte}
 use mathlib.Core.List.{List, [], ◌∷◌, ◌++◌, append-nil}
-use Rattle.std.specs.Prelude.{Bool, true, false, take, ltb, eqb, Option, Some, None}
+use Rattle.std.specs.Prelude.{Bool, true, false, take, ltb, eqb, Option, Some, None, Result, Ok, Err}
 use Rattle.std.proofs.Math.ListN.{length, get_or, drop, length-drop, length-append}
 use Rattle.std.proofs.Math.Seq.{drop-drop, length-take-le, get_or-take, take-length}
 use Rattle.std.proofs.lemmas.List.{drop-append-le, length-take, take_min}
@@ -23,7 +23,7 @@ use Rattle.parts.specs.declared.Kind.{Kind}
 use Rattle.parts.specs.declared.Kind.TheVariants.{Dot, DotDot, Name}
 use Rattle.parts.specs.Body.{component_of, sort_by, sort_of, put, rest, body, from, sort_at}
 use Rattle.parts.specs.Elements.{nth_of, nth_back_of, end_or, Upto}
-use Rattle.parts.specs.Steps.{part_of, part_at, lift, raised, FirstAt, Took, within, BeginAt, LastAt, TookBack}
+use Rattle.parts.specs.Steps.{part_of, part_at, lift, raised, FirstAt, Took, within, BeginAt, LastAt, TookBack, BackAt, GoesBack}
 
 -- a segment is told by its own bytes
 sort_same : (v : Bool) (n a b c d : ℕ) → (0 < n → a ≡ c) → (1 < n → b ≡ d) → sort_by v n a b ≡ sort_by v n c d
@@ -449,6 +449,17 @@ module _ (sep : ℕ → Bool) (v : Bool) (s : List ℕ) (lo hi : ℕ) (r : Optio
       go : (r : Option Part) → LastAt sep v s lo hi r → raised r ≡ nth_back_of (within sep v s lo hi) 0
       go None f = sym (back_none (within sep v s lo hi) 0 f.is)
       go (Some p) f = sym (back_last (within sep v s lo hi) (within sep v s lo p.start) (lift p) f.is)
+
+-- a walk back: it begins at the list's own end, and its answer tells the element there, or that the list is too short
+pub behind_all : (l : List Element) (b : ℕ) → GoesBack l b l b
+behind_all l b = record { same = refl; left = refl }
+
+module _ (l : List Element) (b : ℕ) (w : Result Part ℕ) (h : BackAt l b w) where
+  pub back_at : (p : Part) → w ≡ Ok p → Some (lift p) ≡ nth_back_of l b
+  back_at p e = rw e at h
+
+  pub back_over : (n : ℕ) → w ≡ Err n → None ≡ nth_back_of l b
+  back_over n e = let t : length l + n ≡ b = rw e at h in sym (back_past l b (omega arith))
 
 -- `next`, `next_back`, and what callers' walks by `first` and `last` learn
 pub ruleset firsts = (first_here, first_less, first_skip, first_out)

@@ -1,7 +1,8 @@
 -- Laws of the cursor's calls: one a way through each.
 use Rattle.std.specs.Prelude.{false, ℕ, ◌+◌, ◌-◌, ◌<◌, ◌≤◌, ◌≡◌, refl, List, Bool, true, length, Option, Some, None, Result, Ok, Err, is_some, ◌^◌, ◌&&◌, min, nat_eq, ltb, IsTrue}
 use Rattle.octets.specs.Laws.{split}
-use Rattle.std.proofs.Common.{eqb-true, ltb-false, arith, sym, ◌∙◌}
+use Rattle.std.specs.Int.{w64}
+use Rattle.std.proofs.Common.{Fits, eqb-true, ltb-false, arith, sym, ◌∙◌}
 use Rattle.std.proofs.lemmas.Bool.{false≢true}
 use borrow.Author.Tests.{eq-eqb, ne_eqb, lt-ltb, le-ltb}
 use Rattle.octets.specs.Class.{limit}
@@ -137,6 +138,22 @@ module _ (c : Cursor) (s : List ℕ) (x : Stepped) (r : Result Seps Reply) (g : 
     unfolding next_back_call
     back_taken z = one_taken c.mode s r g k h (refused_step c) _ x (z ∙ rw (one_same c.mode s r g k h))
 
+-- a cursor moved by one fits
+module _ (k : Seps) (s : List ℕ) (w : length s ≤ limit) where
+  module _ (i : Option Element) (t : Bool) (g : t ≡ is_some i) (y : t ≡ true) where
+    pub front_fits : (f : ℕ) → i ≡ nth_of (list_of k s) f → Fits w64 (f + 1)
+    front_fits f e = record { fits = omega (arith, nth_below (list_of k s) i t g y f e, path_few k s) }
+
+    pub back_fits : (b : ℕ) → i ≡ nth_back_of (list_of k s) b → Fits w64 (b + 1)
+    back_fits b e = record { fits = omega (arith, back_below (list_of k s) i t g y b e, path_few k s) }
+
+  module _ (f b : ℕ) (l : Left) (g : l ≡ left_of (length (list_of k s)) f b) (h : l ≡ More) where
+    pub some_front_fits : Fits w64 (f + 1)
+    some_front_fits = record { fits = omega (arith, some_says _ f b (sym g ∙ h), path_few k s) }
+
+    pub some_back_fits : Fits w64 (b + 1)
+    some_back_fits = record { fits = omega (arith, some_says _ f b (sym g ∙ h), path_few k s) }
+
 -- `as_path`
 module _ (c : Cursor) (s : List ℕ) (x : View) (r : Result Seps Reply) (g : r ≡ accepted_one c.mode s) where
   pub rest_refused : (e : Reply) → r ≡ Err e → x ≡ refused_view e → x ≡ told refused_view (rest_call c s)
@@ -159,6 +176,10 @@ module _ (c : Cursor) (s : List ℕ) (x : View) (r : Result Seps Reply) (g : r �
     rest_done u n f z y =
         let l = rests_says k s c.front c.back u (sym e ∙ f) in
         rest_taken (y ∙ rw (z, l.1) (simp (le-ltb (length (list_of k s)) (c.front + c.back) l.0)))
+
+-- a number less a larger one
+pub minus_none : (a b : ℕ) → a < b → 0 ≡ a - b
+minus_none a b h = omega arith
 
 pub ruleset steps = (took_none, took_here, by_beyond, by_spent, by_some, by_here, front_alone, front_is, back_alone, back_is)
 
