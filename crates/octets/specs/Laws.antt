@@ -116,6 +116,11 @@ module _ (b m : ℕ) (h : b < 256) where
   pub folded_high : 90 < bit_and b m → folds m ≡ true → false ≡ is_letter b
   folded_high l t = simp (folded t, le-leb 65 (bit_and b m) (omega arith), lt-leb (bit_and b m) 90 l)
 
+-- the mask 223; `is_letter`'s proof does not go by it, but computes this of the mask that the code has
+pub mask_folds : folds 223 ≡ true
+unfolding folds
+mask_folds = refl
+
 pub ruleset letters = (folded_in, folded_low, folded_high)
 
 pub lead_short : (sep : ℕ → Bool) (xs : List ℕ) → length (lead sep xs) ≤ length xs
